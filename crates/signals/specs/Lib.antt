@@ -1,0 +1,4 @@
+pub mod Real
+pub mod Signals
+pub mod Terminals
+pub mod Coding
