@@ -18,7 +18,7 @@ use Rattle.signals.specs.declared.signal.SignalType.{SignalType}
 use Rattle.blocks.specs.Meanings.{Shape, Meaning, Lawful, with-shape, start-of, cell-type-of, rank, same-type, typed, stepped-as, stepped}
 use Rattle.blocks.specs.Layers.{cleaned-meaning, lamp-meaning, lamp, any-lit, cell-types}
 
-nth-map : {X Y : Type 0} (f : X → Y) (xs : List X) (i : ℕ) → mapped f (nth xs i) ≡ nth (map f xs) i
+pub nth-map : {X Y : Type 0} (f : X → Y) (xs : List X) (i : ℕ) → mapped f (nth xs i) ≡ nth (map f xs) i
 nth-map f [] i = refl
 nth-map f (x ∷ xs) zero = refl
 nth-map f (x ∷ xs) (suc i) = nth-map f xs i
@@ -52,15 +52,15 @@ of-rank-is SignalType.Int = refl
 of-rank-is SignalType.Dint = refl
 of-rank-is SignalType.Real = refl
 
-same-type-is : (t u : SignalType) → same-type t u ≡ true → u ≡ t
+pub same-type-is : (t u : SignalType) → same-type t u ≡ true → u ≡ t
 same-type-is t u e = sym (of-rank-is u) ∙ ap of-rank (sym (true-eqb (rank t) (rank u) (sym e))) ∙ of-rank-is t
 
-both : (a b : Bool) → (a && b) ≡ true → (a ≡ true) × (b ≡ true)
+pub both : (a b : Bool) → (a && b) ≡ true → (a ≡ true) × (b ≡ true)
 both true true e = (refl, refl)
 both true false e = (refl, e)
 both false b e = (e, absurd (let z : _≡_ {A = ℕ} 0 1 = cc in omega arith))
 
-typed-is : (ts : List SignalType) (xs : List Signal) → typed ts xs ≡ true → map type-of xs ≡ ts
+pub typed-is : (ts : List SignalType) (xs : List Signal) → typed ts xs ≡ true → map type-of xs ≡ ts
 typed-is [] [] e = refl
 typed-is [] (x ∷ xs) e = absurd (let z : _≡_ {A = ℕ} 0 1 = cc in omega arith)
 typed-is (t ∷ ts) [] e = absurd (let z : _≡_ {A = ℕ} 0 1 = cc in omega arith)

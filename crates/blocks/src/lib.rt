@@ -3,6 +3,7 @@ pub mod cleaner;
 pub mod lamps;
 pub mod lent;
 pub mod library;
+pub mod list;
 pub mod pair;
 pub mod refusal;
 

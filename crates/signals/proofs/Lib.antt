@@ -1,1 +1,3 @@
 pub mod Reals
+pub mod Cleanings
+pub mod Codings

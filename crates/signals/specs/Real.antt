@@ -1,17 +1,24 @@
 -- REAL values: which are clean, and what cleaning makes of one. Assumes nothing.
 use mathlib.Core.Bool.{Bool, true, false, not, _&&_, cond}
-use Prim.Native.Nat.{ℕ}
 use lib.Dec.{eqb}
 use lib.Ieee.{Float, nan, inf, fin, binary32, ofBits}
 
 abbrev pub zero-real : Float
 zero-real = ofBits binary32 0
 
--- Finite and not negative zero. Negative zero is `fin true 0 (pos 0)`.
+abbrev pub finite-real : Float → Bool
+finite-real nan = false
+finite-real (inf s) = false
+finite-real (fin s m e) = true
+
+-- `fin true 0 (pos 0)`; zero is `fin false 0 (pos 0)`
+abbrev pub negative-zero : Float → Bool
+negative-zero nan = false
+negative-zero (inf s) = false
+negative-zero (fin s m e) = s && eqb m 0
+
 abbrev pub clean-real : Float → Bool
-clean-real nan = false
-clean-real (inf s) = false
-clean-real (fin s m e) = not (s && eqb m 0)
+clean-real x = finite-real x && not (negative-zero x)
 
 -- the largest finite REAL of a sign, negative where it is true
 abbrev pub largest : Bool → Float

@@ -1,8 +1,13 @@
--- Signals: a signal's type, the zero and the one of a type, and what is clean. Assumes nothing.
+-- Signals: a signal's type, which the machine holds, the zero and the one of a type, and what is clean. Assumes nothing.
+use mathlib.Core.Path.{_≡_}
 use mathlib.Core.Bool.{Bool, true, false, _||_}
+use mathlib.Core.Logic.{_⊎_}
+use lib.Dec.{T}
 use lib.IntN.{ℤ, pos}
-use lib.Ieee.{binary32, ofBits, ne}
+use lib.Ieee.{Float, binary32, ofBits, nan, fits, ne}
 use lib.Signed.{ltZ}
+use mir.Syntax.{w16, w32}
+use mir.Val.{SFits}
 use Rattle.signals.specs.Real.{zero-real, clean-real, cleaned-real}
 use Rattle.signals.specs.declared.signal.Signal.{Signal}
 use Rattle.signals.specs.declared.signal.SignalType.{SignalType}
@@ -12,6 +17,13 @@ type-of (Signal.Bool b) = SignalType.Bool
 type-of (Signal.Int n) = SignalType.Int
 type-of (Signal.Dint n) = SignalType.Dint
 type-of (Signal.Real x) = SignalType.Real
+
+-- The signals that the machine holds: an INT of 16 bits, a DINT of 32, a REAL of binary32.
+abbrev pub Held : Signal → Type 0
+Held (Signal.Bool b) = Unit {0}
+Held (Signal.Int n) = SFits w16 n
+Held (Signal.Dint n) = SFits w32 n
+Held (Signal.Real x) = T (fits binary32 x)
 
 abbrev pub zero-of : SignalType → Signal
 zero-of SignalType.Bool = Signal.Bool false
@@ -47,3 +59,25 @@ cleaned (Signal.Bool b) = Signal.Bool b
 cleaned (Signal.Int n) = Signal.Int n
 cleaned (Signal.Dint n) = Signal.Dint n
 cleaned (Signal.Real x) = Signal.Real (cleaned-real x)
+
+-- What cleaning does to a signal.
+pub record Cleaning : Type 0 where
+  -- It gives a clean signal.
+  pub clears : (s : Signal) → clean (cleaned s) ≡ true
+  -- It leaves a clean signal as it is.
+  pub keeps : (s : Signal) → clean s ≡ true → cleaned s ≡ s
+  -- It changes no type.
+  pub typed : (s : Signal) → type-of (cleaned s) ≡ type-of s
+  -- The machine holds the result as it held the signal.
+  pub holds : (s : Signal) → Held s → Held (cleaned s)
+  -- Only negative zero, the infinities and what is not a number are not clean.
+  pub unclean : (x : Float) → T (fits binary32 x) → clean-real x ≡ false →
+      (x ≡ ofBits binary32 0x80000000) ⊎ (x ≡ ofBits binary32 0x7F800000) ⊎ (x ≡ ofBits binary32 0xFF800000) ⊎ (x ≡ nan)
+  -- Negative zero becomes 0.
+  pub negative-zero : cleaned (Signal.Real (ofBits binary32 0x80000000)) ≡ Signal.Real (ofBits binary32 0)
+  -- What is not a number becomes 0.
+  pub not-a-number : cleaned (Signal.Real nan) ≡ Signal.Real (ofBits binary32 0)
+  -- Infinity becomes the largest finite value.
+  pub infinite : cleaned (Signal.Real (ofBits binary32 0x7F800000)) ≡ Signal.Real (ofBits binary32 0x7F7FFFFF)
+  -- Negative infinity becomes the lowest finite value.
+  pub minus-infinite : cleaned (Signal.Real (ofBits binary32 0xFF800000)) ≡ Signal.Real (ofBits binary32 0xFF7FFFFF)

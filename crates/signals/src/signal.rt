@@ -1,6 +1,6 @@
 // A signal and its type.
 ghost use mathlib.Core.Path.{_≡_};
-ghost use Rattle.signals.specs.Signals.{type-of, zero-of, one-of, lit, clean, cleaned};
+ghost use Rattle.signals.specs.Signals.{type-of, zero-of, one-of, lit, clean, cleaned, Cleaning};
 ghost use Rattle.std.specs.Orderings.{Decides};
 use crate::real;
 
@@ -88,6 +88,13 @@ impl Signal {
             _ => self,
         }
     }
+}
+
+// Theorem: what cleaning does.
+pub fn cleaning_is_sound() -> u8
+    ensures { λ _. ⌜ Cleaning ⌝ }
+{
+    0
 }
 
 pub impl PartialEq<Signal> for Signal as SignalPartialEq {

@@ -1,6 +1,6 @@
 // The types of the terminals.
 ghost use mathlib.Core.Path.{_≡_};
-ghost use Rattle.signals.specs.Terminals.{terminal-type};
+ghost use Rattle.signals.specs.Terminals.{terminal-type, Terminals-by-type};
 use crate::signal::SignalType;
 
 // The type of an input or output terminal, by its number: none from 32 on.
@@ -14,4 +14,11 @@ pub fn type_of_terminal(terminal: u8) -> Option<SignalType>
         24..=31 => Some(SignalType::Real),
         _ => None,
     }
+}
+
+// Theorem: each type has eight terminals.
+pub fn terminals_go_by_type() -> u8
+    ensures { λ _. ⌜ Terminals-by-type ⌝ }
+{
+    0
 }

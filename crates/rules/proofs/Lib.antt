@@ -1,0 +1,4 @@
+pub mod Kept
+pub mod Limits
+pub mod Outside
+pub mod Remainder
