@@ -55,6 +55,12 @@ of-rank-is SignalType.Real = refl
 pub same-type-is : (t u : SignalType) → same-type t u ≡ true → u ≡ t
 same-type-is t u e = sym (of-rank-is u) ∙ ap of-rank (sym (true-eqb (rank t) (rank u) (sym e))) ∙ of-rank-is t
 
+pub same-type-self : (t : SignalType) → same-type t t ≡ true
+same-type-self SignalType.Bool = refl
+same-type-self SignalType.Int = refl
+same-type-self SignalType.Dint = refl
+same-type-self SignalType.Real = refl
+
 pub both : (a b : Bool) → (a && b) ≡ true → (a ≡ true) × (b ≡ true)
 both true true e = (refl, refl)
 both true false e = (refl, e)

@@ -1,0 +1,10 @@
+pub mod Pages
+pub mod Charts
+pub mod Loading
+pub mod Soundness
+pub mod Faults
+pub mod Boxes
+pub mod Calls
+pub mod Upstream
+pub mod Tracing
+pub mod Laws
