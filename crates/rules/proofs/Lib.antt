@@ -1,3 +1,4 @@
+pub mod Computed
 pub mod Kept
 pub mod Limits
 pub mod Outside
