@@ -4,6 +4,7 @@ ghost use mathlib.Core.List.{map};
 ghost use Rattle.blocks.specs.Layers.{cleaned-meaning};
 ghost use Rattle.blocks.specs.Kept.{cleaned-lawful};
 ghost use Rattle.signals.specs.Signals.{cleaned};
+ghost use Rattle.std.specs.Options.{mapped};
 use crate::library::Library;
 use crate::refusal::Refusal;
 use signals::Signal;
@@ -34,16 +35,22 @@ pub impl<L: Library> Library for Cleaner<L> as CleanerLibrary {
     }
 
     fn start(&self, kind: u8, cell: usize) -> Option<Signal> {
-        match self.below.start(kind, cell) {
-            Some(signal) => Some(signal.clean()),
-            None => None,
-        }
+        clean_start(self.below.start(kind, cell))
     }
 
     fn step(&self, kind: u8, pins: &[Signal], cells: &mut [Signal]) -> Result<(), Refusal> {
         self.below.step(kind, pins, cells)?;
         clean_all(cells);
         Ok(())
+    }
+}
+
+fn clean_start(start: Option<Signal>) -> Option<Signal>
+    ensures { λ r. ⌜ r ≡ mapped cleaned start ⌝ }
+{
+    match start {
+        Some(signal) => Some(signal.clean()),
+        None => None,
     }
 }
 

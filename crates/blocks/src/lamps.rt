@@ -1,8 +1,11 @@
 // The lamp layer over a library: it shows what a signal can reach.
 ghost use mathlib.Core.Path.{_≡_};
+ghost use mathlib.Core.Bool.{_||_};
 ghost use mathlib.Core.List.{map};
 ghost use Rattle.blocks.specs.Layers.{lamp-meaning, any-lit, lamp};
 ghost use Rattle.blocks.specs.Kept.{lamp-lawful};
+ghost use Rattle.signals.specs.Signals.{zero-of};
+ghost use Rattle.std.specs.Options.{mapped};
 use crate::library::Library;
 use crate::refusal::Refusal;
 use signals::Signal;
@@ -33,19 +36,31 @@ pub impl<L: Library> Library for Lamps<L> as LampsLibrary {
     }
 
     fn start(&self, kind: u8, cell: usize) -> Option<Signal> {
-        match self.below.cell_type(kind, cell) {
-            Some(signal_type) => Some(signal_type.zero()),
-            None => None,
-        }
+        zero_start(self.below.cell_type(kind, cell))
     }
 
     // The library below makes all the tests; its new cells have the types of the old ones.
     fn step(&self, kind: u8, pins: &[Signal], cells: &mut [Signal]) -> Result<(), Refusal> {
-        let lit = is_any_lit(pins) | is_any_lit(cells);
+        let lit = is_reached(pins, cells);
         self.below.step(kind, pins, cells)?;
         set_all(cells, lit);
         Ok(())
     }
+}
+
+fn zero_start(cell_type: Option<SignalType>) -> Option<Signal>
+    ensures { λ r. ⌜ r ≡ mapped zero-of «cell_type» ⌝ }
+{
+    match cell_type {
+        Some(signal_type) => Some(signal_type.zero()),
+        None => None,
+    }
+}
+
+fn is_reached(pins: &[Signal], cells: &[Signal]) -> bool
+    ensures { λ r. ⌜ r ≡ (any-lit (now (pins .entry)) || any-lit (now (cells .entry))) ⌝ }
+{
+    is_any_lit(pins) | is_any_lit(cells)
 }
 
 fn is_any_lit(signals: &[Signal]) -> bool
@@ -60,7 +75,7 @@ fn is_any_lit(signals: &[Signal]) -> bool
 }
 
 // Each cell becomes the one or the zero of its type.
-fn set_all(cells: &mut [Signal], lit: bool)
+pub fn set_all(cells: &mut [Signal], lit: bool)
     ensures { λ _. ⌜ now (cells .exit) ≡ map (lamp lit) (now (cells .entry)) ⌝ }
 {
     for cell in cells.iter_mut() {

@@ -59,7 +59,7 @@ module _ (shapes : Shapes) (limit : ℕ) where
       go true q = refl
       go false q = let l = output-whole shapes kind (length body) e q in λ i. record { blocks = met .blocks; last = Some (getD-append-left body tail 0 0 (omega arith) i) }
 
-  skipped : (met : Met) (n place : ℕ) (xs : List ℕ) → walk-one shapes limit met n place xs ≡ walk-one shapes limit met 0 (place + n) (drop n xs)
+  pub skipped : (met : Met) (n place : ℕ) (xs : List ℕ) → walk-one shapes limit met n place xs ≡ walk-one shapes limit met 0 (place + n) (drop n xs)
   skipped met zero place xs = rw (add-zero place)
   skipped met (suc n) place [] = refl
   skipped met (suc n) place (x ∷ xs) = let e : suc place + n ≡ place + suc n = omega arith in skipped met n (suc place) xs ∙ ap (λ k. walk-one shapes limit met 0 k (drop n xs)) e

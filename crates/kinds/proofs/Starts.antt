@@ -11,8 +11,8 @@ use Rattle.signals.specs.declared.signal.Signal.{Signal}
 use Rattle.signals.specs.declared.signal.SignalType.{SignalType}
 use Rattle.blocks.specs.Meanings.{with-shape}
 use Rattle.blocks.proofs.Answered.{nth-map}
-use Rattle.kinds.specs.Kinds.{start-cells, shape-of}
-use Rattle.kinds.specs.declared.table.Kind.{Kind}
+use Rattle.table.specs.Kinds.{start-cells, shape-of}
+use Rattle.table.specs.declared.Kind.{Kind}
 
 pub typed-start : (o : Option Kind) (k : Kind) (cells : List Signal) (i : ℕ) (x : Signal) → Some k ≡ o → cells ≡ start-cells k → _≡_ {A = Option Signal} (Some x) (nth cells i)
     → _≡_ {A = Option SignalType} (Some (type-of x)) (with-shape (mapped shape-of o) (λ s. nth (s .cells) i))

@@ -1,3 +1,1 @@
-pub mod Kinds
-pub mod Rules
 pub mod Libraries

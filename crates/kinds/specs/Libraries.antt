@@ -13,10 +13,10 @@ use Rattle.std.specs.declared.option.Option.the-variants.{Some, None}
 use Rattle.signals.specs.Signals.{type-of}
 use Rattle.signals.specs.declared.signal.Signal.{Signal}
 use Rattle.blocks.specs.Meanings.{Shape, Meaning, Sized, Lawful}
-use Rattle.kinds.specs.Kinds.{standard-kinds, house-kinds, standard-kind, house-kind, counted-from-one, start-cells, shape-of}
-use Rattle.kinds.specs.Rules.{new-cells}
-use Rattle.kinds.specs.declared.table.Kind.{Kind}
-use Rattle.kinds.specs.declared.table.Kind.the-variants.{And, Or, Not, Add, AddD, DivD, Lim, LimD, Pde, Ctr, Rsr, NswD, IR, RD, N2R, Hys}
+use Rattle.table.specs.Kinds.{standard-kinds, house-kinds, standard-kind, house-kind, counted-from-one, start-cells, shape-of}
+use Rattle.steps.specs.Rules.{new-cells}
+use Rattle.table.specs.declared.Kind.{Kind}
+use Rattle.table.specs.declared.Kind.the-variants.{And, Or, Not, Add, AddD, DivD, Lim, LimD, Pde, Ctr, Rsr, NswD, IR, RD, N2R, Hys}
 
 -- ---- the meaning of a library of kinds that have numbers
 

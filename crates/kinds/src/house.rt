@@ -1,12 +1,12 @@
 // The house library.
 ghost use Rattle.kinds.specs.Libraries.{house-meaning, house-lawful};
-use crate::steps;
-use crate::table::Kind;
 use blocks::Library;
 use blocks::Refusal;
 use blocks::list::item;
 use signals::Signal;
 use signals::SignalType;
+use steps::step;
+use table::Kind;
 
 #[derive(Clone, Copy)]
 pub struct House;
@@ -36,7 +36,7 @@ pub impl Library for House as HouseLibrary {
 
     fn step(&self, kind: u8, pins: &[Signal], cells: &mut [Signal]) -> Result<(), Refusal> {
         match Kind::house(kind) {
-            Some(kind) => steps::step(kind, pins, cells),
+            Some(kind) => step(kind, pins, cells),
             None => Err(Refusal::Missing),
         }
     }

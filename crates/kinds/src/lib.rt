@@ -1,9 +1,6 @@
 // The standard and the house library: shapes, starting cells and steps of their kinds.
 pub mod house;
 pub mod standard;
-pub mod steps;
-pub mod table;
 
 pub use house::House;
 pub use standard::Standard;
-pub use table::Kind;

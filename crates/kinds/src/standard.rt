@@ -1,12 +1,12 @@
 // The standard library.
 ghost use Rattle.kinds.specs.Libraries.{standard-meaning, standard-lawful};
-use crate::steps;
-use crate::table::Kind;
 use blocks::Library;
 use blocks::Refusal;
 use blocks::list::item;
 use signals::Signal;
 use signals::SignalType;
+use steps::step;
+use table::Kind;
 
 #[derive(Clone, Copy)]
 pub struct Standard;
@@ -36,7 +36,7 @@ pub impl Library for Standard as StandardLibrary {
 
     fn step(&self, kind: u8, pins: &[Signal], cells: &mut [Signal]) -> Result<(), Refusal> {
         match Kind::standard(kind) {
-            Some(kind) => steps::step(kind, pins, cells),
+            Some(kind) => step(kind, pins, cells),
             None => Err(Refusal::Missing),
         }
     }

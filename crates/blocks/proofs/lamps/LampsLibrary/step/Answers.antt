@@ -1,8 +1,7 @@
-use mathlib.Core.Path.{_≡_, ap, _∙_}
-use mathlib.Core.Bool.{_||_}
+use mathlib.Core.Path.{ap, _∙_}
 use mathlib.Core.List.{map}
 use Rattle.std.specs.declared.result.Result.the-variants.{Ok}
-use Rattle.blocks.specs.Layers.{lamp, any-lit}
+use Rattle.blocks.specs.Layers.{lamp}
 use Rattle.blocks.proofs.Answered.{lamp-stepped}
 use Rattle.blocks.proofs.lamps.LampsLibrary.step.Needs as need
 
@@ -11,5 +10,4 @@ returns g c =
     let l = g .L·Library in
     let below = c .args .self .now .below in
     let done = lamp-stepped (l .meaning below) (l .lawful below) (c .args .kind) (c .args .pins .now) (c .args .cells .now) (c .step .last .cells) (c .in-Continue-step .ensures tt) in
-    let lit : (c .is-any-lit .result || c .is-any-lit-2 .result) ≡ (any-lit (c .args .pins .now) || any-lit (c .args .cells .now)) = λ i. c .is-any-lit .ensures i || c .is-any-lit-2 .ensures i in
-    ap (λ xs. (Ok tt, xs)) (c .set-all .ensures ∙ ap (λ b. map (lamp b) (c .step .last .cells)) lit) ∙ done
+    ap (λ xs. (Ok tt, xs)) (c .set-all .ensures ∙ ap (λ b. map (lamp b) (c .step .last .cells)) (c .is-reached-lit .ensures)) ∙ done

@@ -1,6 +1,6 @@
 use mathlib.Core.Path.{ap, _∙_}
 use Rattle.std.specs.declared.option.Option.the-variants.{Some}
-use Rattle.kinds.specs.Kinds.{standard-kind}
+use Rattle.table.specs.Kinds.{standard-kind}
 use Rattle.kinds.proofs.Starts.{typed-start}
 use Rattle.kinds.proofs.standard.StandardLibrary.cell_type.Needs as need
 

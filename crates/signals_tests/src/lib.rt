@@ -1,0 +1,3 @@
+// The signals at their borders.
+#[cfg(test)]
+mod tests;
