@@ -1,0 +1,3 @@
+pub mod Turning
+pub mod Starting
+pub mod Zeros

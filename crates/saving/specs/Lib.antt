@@ -1,0 +1,2 @@
+pub mod Saving
+pub mod Writing

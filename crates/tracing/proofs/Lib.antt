@@ -1,0 +1,4 @@
+pub mod Dimming
+pub mod Reading
+pub mod Rounds
+pub mod Reaching
