@@ -44,18 +44,6 @@ drop-next {X = X} xs n x e = rw add-one (go xs n e)
 
 -- ---- what a kind has
 
--- a kind has at most 8 pins
-pub few-pins : (m : Meaning) → Lawful m → (kind pins cells outputs : ℕ) → Some (pins, cells, outputs) ≡ counts-of m kind → pins ≤ 8
-few-pins m law kind pins cells outputs e = go (m .shape kind) refl e
-  where
-    go : (o : Option Shape) → m .shape kind ≡ o → Some (pins, cells, outputs) ≡ mapped counts o → pins ≤ 8
-    go None q h = let z : _≡_ {A = ℕ} 0 1 = cc (h) in absurd (omega arith)
-    go (Some s) q h =
-        let f = law .sized kind s q .few-pins in
-        let t : _≡_ {A = ℕ × ℕ × ℕ} (pins, cells, outputs) (counts s) = cc (h) in
-        let l : pins ≡ length (s .pins) = ap (λ x. x .0) t in
-        omega arith
-
 start-nth : (m : Meaning) (kind n : ℕ) → start-of m kind n ≡ nth (starting m kind) n
 start-nth m kind n = go (m .shape kind)
   where

@@ -12,6 +12,7 @@ ghost use Rattle.charts.specs.Pages.{block-limit};
 ghost use Rattle.loading.specs.Built.{sources-in, Built-block, Built};
 use crate::page::Block;
 use crate::page::Page;
+use crate::walk_one::body_length;
 use blocks::Library;
 use charts::OutputRecord;
 use charts::Source;
@@ -31,7 +32,7 @@ pub(crate) fn build<L: Library>(heap: Global, library: &L, chart: &[u8]) -> Resu
     };
     let mut rest = chart;
     while let [kind, after @ ..] = rest {
-        let Some(size) = body_size(library, *kind) else {
+        let Some(size) = body_length(library, *kind) else {
             break;
         };
         if after.len() < size {
@@ -42,19 +43,6 @@ pub(crate) fn build<L: Library>(heap: Global, library: &L, chart: &[u8]) -> Resu
         rest = more;
     }
     Ok(page)
-}
-
-// The length of the body of a record, none for a kind without a shape.
-fn body_size<L: Library>(library: &L, kind: u8) -> Option<usize>
-    ensures { λ r. ⌜ r ≡ body-length (L·Library .meaning (now (library .entry)) .shape) kind ⌝ }
-{
-    if kind == 0 {
-        return Some(3);
-    }
-    match library.shape(kind) {
-        Some((pins, _, _)) => Some(5 * pins),
-        None => None,
-    }
 }
 
 // One whole record more.

@@ -4,7 +4,7 @@ use borrow.Author.Needs.{needs}
 use Rattle.charts.specs.Pages.{block-limit}
 use Rattle.loading.proofs.Building.{begun, further, ended, never-unknown, never-cut}
 use Rattle.loading.proofs.build.build.Needs as need
-use Rattle.loading.proofs.build.build.Needs.{in-rest, in-len1-up·in-rest-body-size, in-len1-up·in-Some·then-after-size}
+use Rattle.loading.proofs.build.build.Needs.{in-rest, in-len1-up·in-rest-body-length, in-len1-up·in-Some·then-after-size}
 
 pub loop-rest-holds : need.loop-rest-holds
 loop-rest-holds g c rs e =
@@ -23,9 +23,9 @@ returns g c rs e =
     let rest = c .loop-rest .rest .now in
     elim (c .if-rest-lt1 .came) [
       | in-rest w ↦ let none : length rest < 1 = search needs in ended m rs (c .loop-rest .page) rest (c .loop-rest .inv rs e) none
-      | in-len1-up·in-rest-body-size w ↦
+      | in-len1-up·in-rest-body-length w ↦
           let some : 1 ≤ length rest = search needs in
-          absurd (never-unknown m rs (c .loop-rest .page) rest (c .loop-rest .inv rs e) some (w .in-rest-body-size .ensures tt))
+          absurd (never-unknown m rs (c .loop-rest .page) rest (c .loop-rest .inv rs e) some (w .in-rest-body-length .ensures tt))
       | in-len1-up·in-Some·then-after-size w ↦
           let some : 1 ≤ length rest = search needs in
           absurd (never-cut m rs (c .loop-rest .page) rest (c .loop-rest .inv rs e) (w .in-Some .size) some (w .in-Some .ensures tt) (w .if-after-size .taken))
