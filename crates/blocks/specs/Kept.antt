@@ -1,6 +1,6 @@
 -- Each layer keeps the law of a library. Assumes nothing.
-use Rattle.std.specs.Prelude.{◌≡◌, ℕ, ◌-◌, ◌≤◌, Bool, true, false, cond, ◌||◌, T, List, [], ◌∷◌, map, Some, None, Option, nat_lt, refl}
-use Rattle.std.proofs.Common.{sym, ap, ◌∙◌, arith, ltb→lt}
+use Rattle.std.specs.Prelude.{◌≡◌, ℕ, ◌-◌, Bool, true, false, cond, ◌||◌, T, List, [], ◌∷◌, map, Some, None, Option, nat_lt, refl}
+use Rattle.std.proofs.Common.{ap, ◌∙◌, arith, ltb→lt}
 use Rattle.signals.specs.Signals.{type_of, zero_of, one_of, cleaned}
 use Rattle.signals.specs.declared.signal.Signal.{Signal}
 use Rattle.signals.specs.declared.signal.SignalType.{SignalType}

@@ -1,5 +1,5 @@
 -- The meanings of the three layers, given those below. Assumes nothing.
-use Rattle.std.specs.Prelude.{ℕ, ◌-◌, Bool, true, false, cond, ◌||◌, List, [], ◌∷◌, map, Some, None, Option, nat_lt}
+use Rattle.std.specs.Prelude.{◌-◌, Bool, false, cond, ◌||◌, List, [], ◌∷◌, map, Some, None, Option, nat_lt}
 use Rattle.signals.specs.Signals.{type_of, zero_of, one_of, lit, cleaned}
 use Rattle.signals.specs.declared.signal.Signal.{Signal}
 use Rattle.signals.specs.declared.signal.SignalType.{SignalType}

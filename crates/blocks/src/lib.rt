@@ -1,4 +1,6 @@
 // Block libraries: the interface that every library keeps, and three layers over any libraries.
+#![tactic(auto)]
+
 pub mod cleaner;
 pub mod lamps;
 pub mod lent;

@@ -1,4 +1,6 @@
 // Loaders and boxes over any library.
+#![tactic(auto)]
+
 pub mod gate_box;
 pub mod loader;
 mod lookup;

@@ -1,4 +1,6 @@
 // Runs a box over the shipped library: the chart from `chart.bin`, the calls from standard input, a line for each on standard output.
+#![tactic(auto)]
+
 ghost use Rattle.std.specs.Prelude.{◌≤◌, length, IfOk};
 
 use anyhow::anyhow;

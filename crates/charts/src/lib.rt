@@ -1,4 +1,6 @@
 // Charts and boxes: what a page is made of, and the calls on a box. The rules themselves are in specs/.
+#![tactic(auto)]
+
 pub mod call;
 pub mod laws;
 pub mod page;

@@ -1,4 +1,6 @@
 // A box run from bytes: requests in, lines out.
+#![tactic(auto)]
+
 pub mod hexadecimal;
 pub mod input;
 pub mod laws;

@@ -1,4 +1,6 @@
 // The engine over the shipped library: what load refuses and where, what each call refuses, charts that feed back, save, trace and limits.
+#![tactic(auto)]
+
 #[cfg(test)]
 mod calls;
 #[cfg(test)]

@@ -1,4 +1,6 @@
 // A gate's day over the shipped library, and then rules at their borders, each held to what it must give.
+#![tactic(auto)]
+
 mod block;
 mod border;
 mod fault;

@@ -1,4 +1,6 @@
 // Runs charts written as text, each with calls and with what must come of them, and says of each whether it did.
+#![tactic(auto)]
+
 mod fault;
 mod sheet;
 mod verdict;

@@ -1,4 +1,6 @@
 // The standard and the house library: shapes, starting cells and steps of their kinds.
+#![tactic(auto)]
+
 pub mod house;
 pub mod standard;
 

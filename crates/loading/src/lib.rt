@@ -1,4 +1,6 @@
 // Loading: from the bytes of a chart to a page with its starting cells, or the chart's first fault.
+#![tactic(auto)]
+
 pub mod build;
 pub mod fault;
 pub mod load;

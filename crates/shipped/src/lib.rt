@@ -1,4 +1,6 @@
 // The library that boxes ship with, and the worked examples, shown of the rules themselves.
+#![tactic(auto)]
+
 ghost use Rattle.std.specs.Prelude.{◌≡◌};
 ghost use Rattle.shipped.specs.Worked.{WorkedExamples};
 

@@ -1,7 +1,7 @@
 -- The coding of signals keeps what its laws say. Assumes nothing.
 use Rattle.std.proofs.Common.{◌≡◌, ℕ, ◌+◌, ◌*◌, ◌/◌, ◌%◌, ◌^◌, ◌<◌, Bool, true, false, cond, not, T, eqb, List, [], ◌∷◌, ℤ, Some, None, sym, refl, ap, ◌∙◌, subst, mod-eq_of_lt, arith, w16, w32, SFits, to_z}
 use native.Mathlib.Nat.{div-div-eq-div-mul}
-use lib.Ieee.{Float, nan, inf, fin, binary32, of_bits, to_bits, fits, is_nan}
+use lib.Ieee.{Float, nan, inf, fin, binary32, of_bits, to_bits, is_nan}
 use lib.Ieee.Bits.{of_bits-to_bits, to_bits-of_bits, to_bits-lt, of_bits-fits}
 use mir.Facts.{sfits_to_z}
 use Rattle.std.proofs.lemmas.Int.{ints, to_z-of_z, of_z-to_z}

@@ -2,3 +2,4 @@ pub mod Real
 pub mod Signals
 pub mod Terminals
 pub mod Coding
+pub mod Same

@@ -1,5 +1,7 @@
 -- REAL values: which are clean, and what cleaning makes of one. Assumes nothing.
 use Rattle.std.specs.Prelude.{Bool, true, false, cond, not, ◌&&◌, ◌==◌, from_bits, Float}
+use Rattle.std.specs.Bool.{beq}
+use Rattle.std.specs.Ordering.{int_eq}
 use Rattle.std.specs.Float.{nan, inf, fin, binary32}
 
 abbrev pub zero_real : Float
@@ -31,3 +33,10 @@ stand_in (fin s m e) = zero_real
 
 abbrev pub cleaned_real : Float → Float
 cleaned_real x = cond (clean_real x) x (stand_in x)
+
+-- whether two REALs are one value: 0 and negative zero are two, all that is not a number is one
+abbrev pub same_real : Float → Float → Bool
+same_real nan nan = true
+same_real (inf s) (inf t) = beq s t
+same_real (fin s m e) (fin t n f) = beq s t && (m == n && int_eq e f)
+same_real x y = false

@@ -1,9 +1,11 @@
 -- Signals: a signal's type, which the machine holds, the zero and the one of a type, and what is clean. Assumes nothing.
 use Rattle.std.specs.Prelude.{◌≡◌, Bool, true, false, ◌||◌, T, ◌⊎◌, ℤ, pos, FitsSigned, from_bits, int_lt, Float}
+use Rattle.std.specs.Bool.{beq}
+use Rattle.std.specs.Ordering.{int_eq}
 use Rattle.std.specs.Float.{binary32, nan}
 use Rattle.std.specs.Float.Ieee.{fits, ne}
 use Rattle.std.specs.Int.{w16, w32}
-use Rattle.signals.specs.Real.{zero_real, clean_real, cleaned_real}
+use Rattle.signals.specs.Real.{zero_real, clean_real, cleaned_real, same_real}
 use Rattle.signals.specs.declared.signal.Signal.{Signal}
 use Rattle.signals.specs.declared.signal.SignalType.{SignalType}
 
@@ -54,6 +56,14 @@ cleaned (Signal.Bool b) = Signal.Bool b
 cleaned (Signal.Int n) = Signal.Int n
 cleaned (Signal.Dint n) = Signal.Dint n
 cleaned (Signal.Real x) = Signal.Real (cleaned_real x)
+
+-- whether two signals are one value of one type
+abbrev pub same_signal : Signal → Signal → Bool
+same_signal (Signal.Bool a) (Signal.Bool b) = beq a b
+same_signal (Signal.Int a) (Signal.Int b) = int_eq a b
+same_signal (Signal.Dint a) (Signal.Dint b) = int_eq a b
+same_signal (Signal.Real a) (Signal.Real b) = same_real a b
+same_signal x y = false
 
 -- What cleaning does to a signal.
 pub record Cleaning : Type 0 where

@@ -1,8 +1,7 @@
 // A signal and its type.
 ghost use Rattle.std.specs.Prelude.{◌≡◌, Decides};
-ghost use Rattle.signals.specs.Signals.{type_of, zero_of, one_of, lit, clean, cleaned, Cleaning};
-ghost use Rattle.std.specs.Cmp.Rules.{comparing};
-ghost use Rattle.std.proofs.Common.{rules};
+ghost use Rattle.signals.specs.Signals.{type_of, zero_of, one_of, lit, clean, cleaned, same_signal, Cleaning};
+ghost use Rattle.signals.specs.Same.{same_signal_laws};
 
 use crate::real;
 
@@ -100,11 +99,14 @@ pub fn cleaning_is_sound() -> u8
 }
 
 impl PartialEq for Signal {
-    ghost equals = { λ a b r. Decides r (a ≡ b) };
+    ghost eq = { same_signal };
 
-    ghost laws = { Prim.search (comparing, rules) };
+    ghost laws = { same_signal_laws };
 
-    fn eq(&self, other: &Signal) -> bool {
+    fn eq(&self, other: &Signal) -> bool
+        ensures gives { result ≡ same_signal self.now other.now }
+        ensures decides { Decides result (self.now ≡ other.now) }
+    {
         match (*self, *other) {
             (Signal::Bool(a), Signal::Bool(b)) => a == b,
             (Signal::Int(a), Signal::Int(b)) => a == b,

@@ -1,3 +1,5 @@
 // The signals at their borders.
+#![tactic(auto)]
+
 #[cfg(test)]
 mod tests;

@@ -1,4 +1,6 @@
 // A step of a kind: takes its pins apart, works out its rule and writes the new cells.
+#![tactic(auto)]
+
 ghost use Rattle.std.specs.Prelude.{◌≡◌};
 ghost use Rattle.blocks.specs.Refusals.{numbered};
 ghost use Rattle.steps.specs.Rules.{stepped_kind};

@@ -1,4 +1,6 @@
 // The kinds: their numbers, pins, starting cells and outputs.
+#![tactic(auto)]
+
 ghost use Rattle.std.specs.Prelude.{◌≡◌};
 ghost use Rattle.table.specs.Kinds.{standard_kind, house_kind, pin_types, start_cells, output_count};
 

@@ -1,4 +1,6 @@
 // Trace: which blocks a signal of one block can reach, over any library.
+#![tactic(auto)]
+
 mod dim;
 mod lamps;
 mod light;

@@ -6,7 +6,7 @@ use Rattle.boxes.proofs.tune.put_constant.Goals as goal
 pub returns-in-Some : goal.returns-in-Some
 returns-in-Some c =
     let p = c.args.page.now in
-    let put = c.put-source in
+    let put = c.put_source in
     let held = found _ _ _ _ refl c.in-Some.ensures.item.0 c.in-Some.ensures.item.1 in
     record {
       page = block_tuned p c.args.block c.in-Some.found.now put.new.block held c.args.pin c.args.signal put.ensures.kind put.ensures.pins;

@@ -12,9 +12,9 @@ use Rattle.console.proofs.session.hold.Goals as goal
 
 pub loop-request-preserved : goal.loop-request-preserved
 loop-request-preserved g c =
-    let m = g.L.Library.meaning c.args.gate-box.library in
-    let x = box_model c.loop-request.gate-box in
-    let y = box_model c.ask.new.gate-box in
+    let m = g.L.Library.meaning c.args.gate_box.library in
+    let x = box_model c.loop-request.gate_box in
+    let y = box_model c.ask.new.gate_box in
     let line = c.ask.result in
     let qs = c.args.requests.now in
     let i = c.loop-request.request-index in
@@ -22,13 +22,13 @@ loop-request-preserved g c =
     let p = subst (λ l. ◌≡◌ {A = Line × Box} (line, y) (asked (g.L.Library.meaning l) x (get_or qs i d))) c.loop-request.invariant.0 c.ask.ensures.asked in (
       c.ask.ensures.library ∙ c.loop-request.invariant.0,
       one_request_run m x y line qs i d c.loop-request-test.true p ∙ c.loop-request.invariant.1,
-      ap (λ s. s ++ lines_of m y (drop (i + 1) qs)) c.in-ok-append.ensures ∙ one_line_more m x y line qs i d c.loop-request-test.true p (string_bytes c.loop-request.text) ∙ c.loop-request.invariant.2,
+      ap (λ s. s ++ lines_of m y (drop (i + 1) qs)) c.in_ok-append.ensures ∙ one_line_more m x y line qs i d c.loop-request-test.true p (string_bytes c.loop-request.text) ∙ c.loop-request.invariant.2,
     )
 
 pub returns : goal.returns
 returns g c =
-    let m = g.L.Library.meaning c.args.gate-box.library in
-    let x = box_model c.loop-request.gate-box in
+    let m = g.L.Library.meaning c.args.gate_box.library in
+    let x = box_model c.loop-request.gate_box in
     let qs = c.args.requests.now in
     let none = drop_all c.loop-request.request-index qs c.loop-request-test.false in (
       sym (ap (λ l. run m x (calls_of m x l)) none) ∙ c.loop-request.invariant.1,

@@ -6,10 +6,10 @@ use Rattle.console.proofs.session.hold.Given as goal
 
 abbrev pub invariant-loop-request : goal.invariant-loop-request
 invariant-loop-request g l =
-    let m = g.L.Library.meaning l.initial.gate-box.library in
-    let x = box_model l.gate-box in
-    let first = box_model l.initial.gate-box in
+    let m = g.L.Library.meaning l.initial.gate_box.library in
+    let x = box_model l.gate_box in
+    let first = box_model l.initial.gate_box in
     let rest = drop l.request-index l.requests in
-    (l.gate-box.library ≡ l.initial.gate-box.library)
+    (l.gate_box.library ≡ l.initial.gate_box.library)
     × (run m x (calls_of m x rest) ≡ run m first (calls_of m first l.requests))
     × (string_bytes l.text ++ lines_of m x rest ≡ lines_of m first l.requests)

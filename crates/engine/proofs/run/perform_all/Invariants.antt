@@ -6,7 +6,7 @@ use Rattle.engine.proofs.run.perform_all.Given as goal
 
 abbrev pub invariant-loop-call : goal.invariant-loop-call
 invariant-loop-call g l =
-    let m = g.L.Library.meaning l.initial.gate-box.library in
-    (l.gate-box.library ≡ l.initial.gate-box.library)
-    × (run m (box_model l.gate-box) (drop l.call-index l.calls) ≡ run m (box_model l.initial.gate-box) l.calls)
-    × (map numbered (vec_items l.answers) ++ answers m (box_model l.gate-box) (drop l.call-index l.calls) ≡ answers m (box_model l.initial.gate-box) l.calls)
+    let m = g.L.Library.meaning l.initial.gate_box.library in
+    (l.gate_box.library ≡ l.initial.gate_box.library)
+    × (run m (box_model l.gate_box) (drop l.call-index l.calls) ≡ run m (box_model l.initial.gate_box) l.calls)
+    × (map numbered (vec_items l.answers) ++ answers m (box_model l.gate_box) (drop l.call-index l.calls) ≡ answers m (box_model l.initial.gate_box) l.calls)

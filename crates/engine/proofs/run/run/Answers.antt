@@ -7,9 +7,9 @@ use Rattle.engine.proofs.run.run.Goals as goal
 
 pub returns : goal.returns
 returns g c =
-    let started = c.in-ok-gate-box.ensures in
-    let performed = c.in-ok-run.ensures in
-    let x = c.in-ok-gate-box.gate-box in
+    let started = c.in_ok-gate_box.ensures in
+    let performed = c.in_ok-run.ensures in
+    let x = c.in_ok-gate_box.gate_box in
     let cs = c.args.calls.now in
     let mean = g.L.Library.meaning in
     let m = mean c.args.library in

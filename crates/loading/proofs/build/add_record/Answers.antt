@@ -1,11 +1,11 @@
 use Rattle.loading.proofs.Building.{output_added, block_added}
 use Rattle.loading.proofs.build.add_record.Goals as goal
 
-pub returns-in-ok-push : goal.returns-in-ok-push
-returns-in-ok-push g c rs built =
-    output_added (g.L.Library.meaning c.args.library.now) rs c.args.page.now built c.args.kind c.args.body.now c.if-kind-eq0.true c.requires c.in-Some.record c.in-Some.ensures c.push.new.self c.in-ok-push.ensures.items
+pub returns-in_ok-push : goal.returns-in_ok-push
+returns-in_ok-push g c rs built =
+    output_added (g.L.Library.meaning c.args.library.now) rs c.args.page.now built c.args.kind c.args.body.now c.if-kind-eq0.true c.requires c.in-Some.record c.in-Some.ensures c.push.new.self c.in_ok-push.ensures.items
 
-pub returns-in-ok-push-2 : goal.returns-in-ok-push-2
-returns-in-ok-push-2 g c rs built =
-    block_added (g.L.Library.meaning c.args.library.now) rs c.args.page.now built c.args.kind c.args.body.now c.if-kind-eq0.false c.in-ok-read-block.field-0 c.in-ok-read-block.ensures
-    c.push-else-kind-eq0.new.self c.in-ok-push-2.ensures.items
+pub returns-in_ok-push-2 : goal.returns-in_ok-push-2
+returns-in_ok-push-2 g c rs built =
+    block_added (g.L.Library.meaning c.args.library.now) rs c.args.page.now built c.args.kind c.args.body.now c.if-kind-eq0.false c.in_ok-read_block.field-0 c.in_ok-read_block.ensures
+    c.push-else-kind-eq0.new.self c.in_ok-push-2.ensures.items

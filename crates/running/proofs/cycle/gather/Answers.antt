@@ -9,12 +9,12 @@ loop-p-preserved c =
     let f = taken c.args.terminals.now (all_cells c.args.blocks.now) in
     let p = c.loop-p.p in
     let lt : p < length c.loop-p.pins = omega arith in
-    let long = length-set c.loop-p.pins p c.take-source.result in (
+    let long = length-set c.loop-p.pins p c.take_source.result in (
       omega arith,
       omega arith,
-      take_more_set c.loop-p.pins p c.take-source.result lt
-          ∙ ap (λ xs. xs ++ c.take-source.result ∷ []) c.loop-p.invariant.2
-          ∙ ap (λ x. map f (take p c.args.sources.now) ++ x ∷ []) c.take-source.ensures
+      take_more_set c.loop-p.pins p c.take_source.result lt
+          ∙ ap (λ xs. xs ++ c.take_source.result ∷ []) c.loop-p.invariant.2
+          ∙ ap (λ x. map f (take p c.args.sources.now) ++ x ∷ []) c.take_source.ensures
           ∙ sym (map_more f c.args.sources.now p _ c.if-p-sources.false),
     )
 

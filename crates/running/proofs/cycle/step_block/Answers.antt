@@ -14,8 +14,8 @@ returns-then-count-le8 g c old before =
     let i = c.args.i in
     let d = c.index-blocks-i.result in
     let b : Block = get_or bs i d in
-    let y = c.run-block.new.block in
-    let done = c.run-block.ensures in
+    let y = c.run_block.new.block in
+    let done = c.run_block.ensures in
     let count = c.len-count.ensures ∙ sym c.deref.ensures.len in
     let pins = gathered bs i c.index-page-i.result d c.requires (taken ts (all_cells bs)) c.deref.result.now c.gather-pins.result c.len-count.result
     c.deref.ensures.value count c.if-count-le8.true c.gather-pins.ensures in

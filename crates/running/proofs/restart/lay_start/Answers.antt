@@ -11,7 +11,7 @@ loop-i-preserved g c =
     let k = c.args.kind in
     let i = c.loop-i.i in
     let d = Signal.Bool false in
-    ap (set c.loop-i.cells i) c.start-or.ensures
+    ap (set c.loop-i.cells i) c.start_or.ensures
     ∙ ap (λ (cs : List Signal). set cs i (unwrap_or (start_of m k i) (get_or cs i d))) c.loop-i.invariant
     ∙ laid_more m k c.args.cells.now i d
 

@@ -14,7 +14,7 @@ returns c =
     let outputs = flat_map output_bytes page.outputs.items in
     let fours : 4 * c.len.result ≡ length outputs = omega (arith, outputs_length page.outputs.items, c.len.ensures, page.outputs.ok) in
     c.sum.ensures
-    ∙ ap (λ t. sum_of t c.outputs_length.result) (c.blocks-length.ensures ∙ ap (λ bs. in_usize (length (flat_map block_bytes (map block_model bs)))) c.as-slice.ensures.value)
+    ∙ ap (λ t. sum_of t c.outputs_length.result) (c.blocks_length.ensures ∙ ap (λ bs. in_usize (length (flat_map block_bytes (map block_model bs)))) c.as_slice.ensures.value)
     ∙ ap (sum_of (in_usize (length blocks))) (c.outputs_length.ensures ∙ ap in_usize fours)
     ∙ sum_in_usize (length blocks) (length outputs)
     ∙ ap in_usize (sym (length-append blocks outputs))

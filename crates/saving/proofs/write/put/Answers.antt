@@ -11,5 +11,5 @@ returns c =
     let n : length bytes ≡ (at + length bytes) - at = omega arith in
     record {
       ends = refl;
-      writes = put_mid-paste at ((at + length bytes) - at) buffer c.copy-from-slice.new.self bytes (length bytes) c.copy-from-slice.ensures.after n refl ∙ paste_all buffer at bytes (length bytes) refl;
+      writes = put_mid-paste at ((at + length bytes) - at) buffer c.copy_from_slice.new.self bytes (length bytes) c.copy_from_slice.ensures.after n refl ∙ paste_all buffer at bytes (length bytes) refl;
     }

@@ -11,9 +11,9 @@ returns c =
     let buffer = c.args.buffer.now in
     let kind = c.args.block.now.kind in
     let first = c.put-behind in
-    let rest = c.write-sources in
+    let rest = c.write_sources in
     let both =
-    two_pieces at first.result rest.result buffer first.new.buffer rest.new.buffer (kind ∷ []) (flat_map source_bytes c.as-slice.result.now) (omega (arith, c.requires)) first.ensures.ends first.ensures.writes
+    two_pieces at first.result rest.result buffer first.new.buffer rest.new.buffer (kind ∷ []) (flat_map source_bytes c.as_slice.result.now) (omega (arith, c.requires)) first.ensures.ends first.ensures.writes
     rest.ensures.ends rest.ensures.writes in
-    let all = subst (λ pins. (rest.result ≡ at + length (kind ∷ flat_map source_bytes pins)) × (rest.new.buffer ≡ over buffer at (kind ∷ flat_map source_bytes pins))) c.as-slice.ensures.value both in
+    let all = subst (λ pins. (rest.result ≡ at + length (kind ∷ flat_map source_bytes pins)) × (rest.new.buffer ≡ over buffer at (kind ∷ flat_map source_bytes pins))) c.as_slice.ensures.value both in
     record { ends = all.0; writes = all.1 }

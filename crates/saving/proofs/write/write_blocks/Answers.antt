@@ -8,8 +8,8 @@ use Rattle.saving.proofs.write.write_blocks.Goals as goal
 pub loop-block-init : goal.loop-block-init
 loop-block-init c = filled_none (λ b. block_bytes (block_model b)) c.args.at c.args.buffer.now c.args.blocks.now
 
-pub write-block-at-requires : goal.write-block-at-requires
-write-block-at-requires c =
+pub write_block-at-requires : goal.write_block-at-requires
+write_block-at-requires c =
     let s = c.loop-block in
     let x = c.block-item.result in
     let r = filled_room (λ b. block_bytes (block_model b)) c.args.at c.args.buffer.now c.args.blocks.now s.block-index s.at (length c.args.buffer.now) s.buffer x c.block-item.result s.invariant c.loop-block-test.true c.block-item.is (subst (λ l. c.args.at + length l ≤ length c.args.buffer.now) (joined_map block_bytes block_model c.args.blocks.now) c.requires) in
@@ -19,7 +19,7 @@ pub loop-block-preserved : goal.loop-block-preserved
 loop-block-preserved c =
     let s = c.loop-block in
     let x = c.block-item.result in
-    let w = c.write-block-at in
+    let w = c.write_block-at in
     filled_more (λ b. block_bytes (block_model b)) c.args.at c.args.buffer.now c.args.blocks.now s.block-index s.at w.result s.buffer w.new.buffer x c.block-item.result s.invariant c.loop-block-test.true c.block-item.is (omega (arith, c.requires)) w.ensures.ends w.ensures.writes
 
 pub returns : goal.returns

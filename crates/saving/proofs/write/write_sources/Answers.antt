@@ -8,8 +8,8 @@ use Rattle.saving.proofs.write.write_sources.Goals as goal
 pub loop-source-init : goal.loop-source-init
 loop-source-init c = filled_none source_bytes c.args.at c.args.buffer.now c.args.sources.now
 
-pub write-source-at-requires : goal.write-source-at-requires
-write-source-at-requires c =
+pub write_source-at-requires : goal.write_source-at-requires
+write_source-at-requires c =
     let s = c.loop-source in
     let x = (get_or c.args.sources.now c.loop-source.source-index (Source.Constant (Signal.Bool false))) in
     let r = filled_room source_bytes c.args.at c.args.buffer.now c.args.sources.now s.source-index s.at (length c.args.buffer.now) s.buffer x (Source.Constant (Signal.Bool false)) s.invariant c.loop-source-test.true refl c.requires in
@@ -19,7 +19,7 @@ pub loop-source-preserved : goal.loop-source-preserved
 loop-source-preserved c =
     let s = c.loop-source in
     let x = (get_or c.args.sources.now c.loop-source.source-index (Source.Constant (Signal.Bool false))) in
-    let w = c.write-source-at in
+    let w = c.write_source-at in
     filled_more source_bytes c.args.at c.args.buffer.now c.args.sources.now s.source-index s.at w.result s.buffer w.new.buffer x (Source.Constant (Signal.Bool false)) s.invariant c.loop-source-test.true refl (omega (arith, c.requires)) w.ensures.ends w.ensures.writes
 
 pub returns : goal.returns

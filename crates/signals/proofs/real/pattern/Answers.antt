@@ -7,6 +7,6 @@ pub returns : goal.returns
 returns c =
     let f : T (fits binary32 c.args.x) = search rules in
     record {
-      bits = c.f32-to-bits-with-nan.ensures;
-      back = rw c.f32-to-bits-with-nan.ensures (of_bits-to_bits binary32 _ f);
+      bits = c.f32_to_bits_with_nan.ensures;
+      back = rw c.f32_to_bits_with_nan.ensures (of_bits-to_bits binary32 _ f);
     }

@@ -5,7 +5,7 @@ pub returns : goal.returns
 returns c =
     let p = c.args.page.now in
     let lent = c.deref-mut.result.now in
-    let new = c.dim-all.new.blocks in
+    let new = c.dim_all.new.blocks in
     let whole = c.deref-mut.ensures.value in
-    let long = c.dim-all.auto.blocks in
-    record { page = dimmed_page p lent new whole long c.dim-all.ensures.wiring; cells = dimmed_cells p lent new whole long c.dim-all.ensures.cells }
+    let long = c.dim_all.auto.blocks in
+    record { page = dimmed_page p lent new whole long c.dim_all.ensures.wiring; cells = dimmed_cells p lent new whole long c.dim_all.ensures.cells }

@@ -8,8 +8,8 @@ use Rattle.tracing.proofs.light.light.Goals as goal
 pub returns-then-block-len : goal.returns-then-block-len
 returns-then-block-len c =
     let p = c.args.page.now in
-    let done = c.light-block.ensures in
-    let y = c.light-block.new.block in
+    let done = c.light_block.ensures in
+    let y = c.light_block.new.block in
     let below = c.if-block-len.true in
     let count = c.len.ensures in
     let lt : c.args.block < length (vec_items p.blocks) = omega (arith, p.blocks.ok.0) in

@@ -5,10 +5,10 @@ use Rattle.tracing.proofs.light.light_block.Goals as goal
 
 pub returns : goal.returns
 returns c =
-    let kept = c.set-all.auto.cells in
+    let kept = c.set_all.auto.cells in
     let lent = c.deref-mut.ensures in
     record {
       kind = refl;
       pins = refl;
-      cells = with_items_is c.args.block.now.cells c.set-all.new.cells (omega arith) ∙ c.set-all.ensures ∙ ap lighted lent.value;
+      cells = with_items_is c.args.block.now.cells c.set_all.new.cells (omega arith) ∙ c.set_all.ensures ∙ ap lighted lent.value;
     }

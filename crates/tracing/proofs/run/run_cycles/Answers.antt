@@ -10,14 +10,14 @@ pub loop-preserved : goal.loop-preserved
 loop-preserved g c =
     let m = g.L.Library.meaning c.args.library.now in
     let start = box_of c.args.page.now c.args.terminals.now in
-    c.step-page.ensures.cycled ∙ ap (cycled m) c.loop.invariant ∙ ap (λ n. cycles m n start) (sym (add-one c.loop.counter))
+    c.step_page.ensures.cycled ∙ ap (cycled m) c.loop.invariant ∙ ap (λ n. cycles m n start) (sym (add-one c.loop.counter))
 
 pub returns : goal.returns
 returns g c =
     let m = g.L.Library.meaning c.args.library.now in
     let p = c.args.page.now in
     let start = box_of p c.args.terminals.now in
-    let count = c.cycle-count-end.ensures in
+    let count = c.cycle_count-end.ensures in
     let past = c.loop-test.false in
     let within = c.loop.auto.counter-end in
     let many = length-map (vec_items p.blocks) block_model in

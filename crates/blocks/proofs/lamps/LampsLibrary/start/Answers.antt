@@ -3,4 +3,4 @@ use Rattle.blocks.proofs.Answered.{lamp_start}
 use Rattle.blocks.proofs.lamps.LampsLibrary.start.Goals as goal
 
 pub returns : goal.returns
-returns g c = c.zero-start.ensures ∙ lamp_start (g.L.Library.meaning c.args.self.now.below) c.args.kind c.args.cell _ c.cell-type.ensures
+returns g c = c.zero_start.ensures ∙ lamp_start (g.L.Library.meaning c.args.self.now.below) c.args.kind c.args.cell _ c.cell_type.ensures

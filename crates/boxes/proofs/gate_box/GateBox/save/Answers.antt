@@ -9,7 +9,7 @@ returns g c =
     let box = c.args.self.now in
     let m = g.L.Library.meaning box.library in
     record {
-      saved = c.save-page.ensures;
-      performed = save_performed m (box_model box) c.args.buffer.now c.save-page.new.buffer c.save-page.result c.save-page.ensures;
+      saved = c.save_page.ensures;
+      performed = save_performed m (box_model box) c.args.buffer.now c.save_page.new.buffer c.save_page.result c.save_page.ensures;
       loads = λ limit sound. sound_loads m.shape limit (page_model box.page) sound.page_sound;
     }

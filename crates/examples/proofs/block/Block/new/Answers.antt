@@ -6,4 +6,4 @@ pub returns : goal.returns
 returns g c =
     let m = g.L.Library.meaning c.args.library.now in
     let law = g.L.Library.lawful c.args.library.now in
-    record { kind = refl; cells = all_started m law c.args.kind _ _ _ _ c.in-Some.ensures c.in-ok-cells.ensures }
+    record { kind = refl; cells = all_started m law c.args.kind _ _ _ _ c.in-Some.ensures c.in_ok-cells.ensures }

@@ -9,6 +9,6 @@ returns g c =
     let block = c.args.self.now in
     let long : length c.step.new.cells ≡ block.cells.len = search rules in
     record {
-      stepped = stepped_in_place m block.kind c.args.pins.now (vec_items block.cells) c.as-mut-slice.result.now c.step.new.cells block.cells.len (numbered c.step.result) (drop (length c.step.new.cells) block.cells.items) long c.as-mut-slice.ensures.value c.step.ensures;
+      stepped = stepped_in_place m block.kind c.args.pins.now (vec_items block.cells) c.as_mut_slice.result.now c.step.new.cells block.cells.len (numbered c.step.result) (drop (length c.step.new.cells) block.cells.items) long c.as_mut_slice.ensures.value c.step.ensures;
       kind = refl {a = block.kind};
     }

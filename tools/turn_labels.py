@@ -1,0 +1,56 @@
+#!/usr/bin/env python3
+"""In the answers of a function, spells the names that the checker makes from names of src/ with their underscores.
+
+usage: python3 tools/turn_labels.py          at the top of the checkout, after respell_names.py
+
+c.is-finite.ensures -> c.is_finite.ensures, returns-in-default-body-length -> returns-in-default-body_length.
+"""
+
+import os
+import re
+
+WORD = re.compile(r"(?<![\w'-])[A-Za-z_][\w']*(?:-[\w']+)+(?![\w'-])")
+MADE = {"in-ok": "in_ok", "in-err": "in_err", "overflow-add": "overflow_add", "overflow-mul": "overflow_mul", "overflow-sub": "overflow_sub", "type-inv": "type_inv", "lit-set": "lit_set"}
+
+
+def walk(ending):
+    for folder, dirs, names in os.walk("crates"):
+        dirs[:] = sorted(d for d in dirs if d != "out")
+        for n in sorted(names):
+            if n.endswith(ending):
+                yield os.path.join(folder, n)
+
+
+def main():
+    words = set()
+    for p in walk(".rt"):
+        with open(p, encoding="utf-8") as f:
+            words |= set(re.findall(r"\b[a-z][a-z0-9]*(?:_[a-z0-9]+)+\b", f.read()))
+    known = {w.replace("_", "-"): w for w in words}
+    known.update(MADE)
+
+    def turned(m):
+        parts = m[0].split("-")
+        out, i = [], 0
+        while i < len(parts):
+            for j in range(len(parts), i + 1, -1):
+                w = known.get("-".join(parts[i:j]))
+                if w:
+                    out.append(w)
+                    i = j
+                    break
+            else:
+                out.append(parts[i])
+                i += 1
+        return "-".join(out)
+
+    for p in list(walk("Answers.antt")) + list(walk("Invariants.antt")):
+        with open(p, encoding="utf-8") as f:
+            lines = f.read().split("\n")
+        new = [l if re.match(r"\s*(pub )?use ", l) and not re.search(r"\.(Goals|Given)\b", l) else WORD.sub(turned, l) for l in lines]
+        if new != lines:
+            with open(p, "w", encoding="utf-8") as f:
+                f.write("\n".join(new))
+
+
+main()
