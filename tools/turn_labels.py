@@ -10,7 +10,7 @@ import os
 import re
 
 WORD = re.compile(r"(?<![\w'-])[A-Za-z_][\w']*(?:-[\w']+)+(?![\w'-])")
-MADE = {"in-ok": "in_ok", "in-err": "in_err", "overflow-add": "overflow_add", "overflow-mul": "overflow_mul", "overflow-sub": "overflow_sub", "type-inv": "type_inv", "lit-set": "lit_set"}
+MADE = {"in-ok": "in_ok", "in-err": "in_err", "overflow-add": "overflow_add", "overflow-mul": "overflow_mul", "overflow-sub": "overflow_sub", "type-inv": "type_inv", "lit-set": "lit_set", "in-default": "in_default", "from-residual": "from_residual", "deref-mut": "deref_mut", "index-mut": "index_mut", "as-slice": "as_slice", "as-mut-slice": "as_mut_slice"}
 
 
 def walk(ending):

@@ -1,9 +1,4 @@
 -- The law of boxes, from what load makes of a chart. Assumes nothing.
-use Rattle.std.proofs.Common.{◌≡◌, ℕ, List, Ok}
-use Rattle.charts.specs.Pages.{Page, Shapes}
-use Rattle.charts.specs.Charts.{Bytes, written}
-use Rattle.charts.specs.Loading.{load}
-use Rattle.charts.specs.Soundness.{Sound}
 use Rattle.charts.specs.Boxes.{made}
 use Rattle.charts.specs.Calls.{run}
 use Rattle.charts.specs.Laws.{BoxesLaw}

@@ -4,7 +4,7 @@ use Rattle.std.proofs.ByRecursion.{All-weaker}
 use Rattle.std.proofs.lemmas.List.{append_assoc}
 use Rattle.std.proofs.lemmas.Bool.{leb-false, both_ways}
 use Rattle.std.proofs.lemmas.Bool.Decides.{nat_tests}
-use Rattle.std.specs.List.{flat_map, AllByRecursion as All}
+use Rattle.std.specs.List.{flat_map, AllByRecursion}
 use Rattle.std.specs.Option.{option_map}
 use Rattle.signals.specs.Terminals.{terminal_type}
 use Rattle.signals.specs.declared.signal.SignalType.{SignalType}
@@ -31,33 +31,33 @@ pub record FormedBlock (shapes : Shapes) (kinds : List ℕ) (b : Block) : Type 0
 pub record Formed (shapes : Shapes) (limit : ℕ) (page : Page) : Type 0 where
   pub some_blocks : 1 ≤ length page.blocks
   pub few_blocks : length page.blocks ≤ limit
-  pub blocks_formed : All (FormedBlock shapes (kinds_of page)) page.blocks
-  pub outputs_sound : All (SoundOutput shapes (kinds_of page)) page.outputs
+  pub blocks_formed : AllByRecursion (FormedBlock shapes (kinds_of page)) page.blocks
+  pub outputs_sound : AllByRecursion (SoundOutput shapes (kinds_of page)) page.outputs
   pub rising : Rising page.outputs
 
 -- the machine holds every constant of a block
 abbrev pub HeldBlock : Block → Type 0
-HeldBlock b = All HeldSource b.pins
+HeldBlock b = AllByRecursion HeldSource b.pins
 
 feeds : (shapes : Shapes) (kinds : List ℕ) (t : SignalType) (x : Source) → Supplies shapes kinds t x → HeldSource x → Feeds shapes kinds t x
 feeds shapes kinds t (Source.Constant x) s h = (s.0, s.1, h)
 feeds shapes kinds t (Source.Terminal n) s h = s
 feeds shapes kinds t (Source.Output b o) s h = s
 
-fed_held : (shapes : Shapes) (kinds : List ℕ) (ts : List SignalType) (xs : List Source) → Supplied shapes kinds ts xs → All HeldSource xs → Fed shapes kinds ts xs
+fed_held : (shapes : Shapes) (kinds : List ℕ) (ts : List SignalType) (xs : List Source) → Supplied shapes kinds ts xs → AllByRecursion HeldSource xs → Fed shapes kinds ts xs
 fed_held shapes kinds [] [] s h = tt
 fed_held shapes kinds [] (x ∷ xs) s h = s
 fed_held shapes kinds (t ∷ ts) [] s h = s
 fed_held shapes kinds (t ∷ ts) (x ∷ xs) s h = (feeds shapes kinds t x s.0 h.0, fed_held shapes kinds ts xs s.1 h.1)
 
-blocks_held : (shapes : Shapes) (kinds : List ℕ) (bs : List Block) → All (FormedBlock shapes kinds) bs → All HeldBlock bs → All (SoundBlock shapes kinds) bs
+blocks_held : (shapes : Shapes) (kinds : List ℕ) (bs : List Block) → AllByRecursion (FormedBlock shapes kinds) bs → AllByRecursion HeldBlock bs → AllByRecursion (SoundBlock shapes kinds) bs
 blocks_held shapes kinds [] f h = tt
 blocks_held shapes kinds (b ∷ bs) f h =
     let x = f.0 in
     (record { no_output = x.no_output; form = x.form; formed = x.formed; fed = fed_held shapes kinds x.form.pins b.pins x.supplied h.0 }, blocks_held shapes kinds bs f.1 h.1)
 
 -- a formed page of held constants is sound
-pub formed_sound : (shapes : Shapes) (limit : ℕ) (page : Page) → Formed shapes limit page → All HeldBlock page.blocks → Sound shapes limit page
+pub formed_sound : (shapes : Shapes) (limit : ℕ) (page : Page) → Formed shapes limit page → AllByRecursion HeldBlock page.blocks → Sound shapes limit page
 formed_sound shapes limit page f h = record {
   some_blocks = f.some_blocks;
   few_blocks = f.few_blocks;
@@ -154,12 +154,12 @@ module _ (shapes : Shapes) (limit : ℕ) where
   Next met r b = cond b (record { blocks = suc met.blocks; last = met.last }) (record { blocks = met.blocks; last = Some (get_or r.body 0 0) })
 
   pub all_formed : (kinds : List ℕ) (met : Met) (rs : List Raw) → AllPass shapes limit met rs → FaultlessTwo shapes kinds rs
-      → All (FormedBlock shapes kinds) (blocks_in shapes rs) × All (SoundOutput shapes kinds) (outputs_in rs)
+      → AllByRecursion (FormedBlock shapes kinds) (blocks_in shapes rs) × AllByRecursion (SoundOutput shapes kinds) (outputs_in rs)
   all_formed kinds met [] p f = (tt, tt)
   all_formed kinds met (r ∷ rs) p f = go (is_block r.kind) refl f.0 (all_formed kinds (then_met met r.kind r.body) rs p.1 f.1)
     where
-      go : (b : Bool) → is_block r.kind ≡ b → cond b (pins_fault kinds r) (show_fault kinds r) ≡ None → All (FormedBlock shapes kinds) (blocks_in shapes rs) × All (SoundOutput shapes kinds) (outputs_in rs)
-          → All (FormedBlock shapes kinds) (cond b (block_of r ∷ blocks_in shapes rs) (blocks_in shapes rs)) × All (SoundOutput shapes kinds) (cond b (outputs_in rs) (output_in r.body ∷ outputs_in rs))
+      go : (b : Bool) → is_block r.kind ≡ b → cond b (pins_fault kinds r) (show_fault kinds r) ≡ None → AllByRecursion (FormedBlock shapes kinds) (blocks_in shapes rs) × AllByRecursion (SoundOutput shapes kinds) (outputs_in rs)
+          → AllByRecursion (FormedBlock shapes kinds) (cond b (block_of r ∷ blocks_in shapes rs) (blocks_in shapes rs)) × AllByRecursion (SoundOutput shapes kinds) (cond b (outputs_in rs) (output_in r.body ∷ outputs_in rs))
       go true e q h = ((block_formed kinds met r p.0 e q, h.0), h.1)
       go false e q h =
           let s = output_fits (terminal_type (output_in r.body).terminal) (wire_type shapes kinds (output_in r.body).block (output_in r.body).output) q in
@@ -210,9 +210,9 @@ module _ (shapes : Shapes) (limit : ℕ) where
   -- ---- the bytes
 
   abbrev WrittenBack : List Raw → List Block → List OutputRecord → Type 0
-  WrittenBack rs bs os = (flat_map block_bytes bs ++ flat_map output_bytes os ≡ flat_map raw_bytes rs) × All HeldBlock bs
+  WrittenBack rs bs os = (flat_map block_bytes bs ++ flat_map output_bytes os ≡ flat_map raw_bytes rs) × AllByRecursion HeldBlock bs
 
-  pub all_back : (kinds : List ℕ) (met : Met) (rs : List Raw) → AllPass shapes limit met rs → FaultlessTwo shapes kinds rs → All (λ r. Bytes r.body) rs → WrittenBack rs (blocks_in shapes rs) (outputs_in rs)
+  pub all_back : (kinds : List ℕ) (met : Met) (rs : List Raw) → AllPass shapes limit met rs → FaultlessTwo shapes kinds rs → AllByRecursion (λ r. Bytes r.body) rs → WrittenBack rs (blocks_in shapes rs) (outputs_in rs)
   all_back kinds met [] p f h = (refl, tt)
   all_back kinds met (r ∷ rs) p f h =
       go (is_block r.kind) refl f.0 (all_back kinds (then_met met r.kind r.body) rs p.1 f.1 h.1) (λ w q. no_more_blocks (then_met met r.kind r.body) w q rs p.1)

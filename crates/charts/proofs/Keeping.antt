@@ -1,7 +1,7 @@
 -- A box just made is sound, and every call leaves a sound box sound. Assumes nothing.
 use Rattle.std.proofs.Common.{◌≡◌, ℕ, zero, suc, ◌+◌, ◌<◌, Bool, true, false, cond, ◌&&◌, ltb, ◌⊎◌, List, [], ◌∷◌, map, length, get_or, set, Some, None, Option, sym, refl, ap, ◌∙◌, subst, inl, inr, arith}
 use Rattle.std.specs.Option.{option_map}
-use Rattle.std.specs.List.{AllByRecursion as All, slice_get}
+use Rattle.std.specs.List.{AllByRecursion, slice_get}
 use Rattle.std.proofs.lemmas.List.{length-set, length-map, get_or-set_same, get_or-set_other}
 use Rattle.std.proofs.ByRecursion.{All-set}
 use Rattle.std.proofs.lemmas.Bool.{cases_eq, and_parts, lt-ltb}
@@ -183,8 +183,8 @@ module _ (m : Meaning) (limit : ℕ) (box : Box) (fine : SoundBox m limit box) (
           page_sound = record {
             some_blocks = omega arith;
             few_blocks = omega arith;
-            blocks_sound = subst (λ kinds. All (SoundBlock m.shape kinds) page.blocks) (sym tuned_kinds) each;
-            outputs_sound = subst (λ kinds. All (SoundOutput m.shape kinds) box.page.outputs) (sym tuned_kinds) fine.page_sound.outputs_sound;
+            blocks_sound = subst (λ kinds. AllByRecursion (SoundBlock m.shape kinds) page.blocks) (sym tuned_kinds) each;
+            outputs_sound = subst (λ kinds. AllByRecursion (SoundOutput m.shape kinds) box.page.outputs) (sym tuned_kinds) fine.page_sound.outputs_sound;
             rising = fine.page_sound.rising;
           };
           as_many = fine.as_many ∙ sym long;
@@ -245,6 +245,6 @@ call_keeps m law limit box fine (Call.Show t) held = shown_same m limit (termina
 call_keeps m law limit box fine (Call.Save room) held = settled_same m limit (save_refusal room box.page) (Reply.Bytes (length (written box.page))) box fine
 
 -- any held calls leave a sound box sound
-pub calls_keep : (m : Meaning) → Lawful m → (limit : ℕ) (calls : List Call) (box : Box) → All HeldCall calls → SoundBox m limit box → SoundBox m limit (run m box calls)
+pub calls_keep : (m : Meaning) → Lawful m → (limit : ℕ) (calls : List Call) (box : Box) → AllByRecursion HeldCall calls → SoundBox m limit box → SoundBox m limit (run m box calls)
 calls_keep m law limit [] box held fine = fine
 calls_keep m law limit (c ∷ cs) box held fine = calls_keep m law limit cs (perform m box c).1 held.1 (call_keeps m law limit box fine c held.0)

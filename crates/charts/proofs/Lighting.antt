@@ -1,7 +1,7 @@
 -- The box of a trace, painted with lamps at every moment of its run. Assumes nothing.
 use Rattle.std.proofs.Common.{◌≡◌, ℕ, zero, suc, ◌<◌, Bool, true, false, cond, ◌&&◌, ◌||◌, List, [], ◌∷◌, map, length, get_or, set, Some, None, Ok, Err, Option, Result, sym, refl, ap, ◌∙◌, ap₂, arith}
 use Rattle.std.specs.Option.{option_map}
-use Rattle.std.specs.List.{AllByRecursion as All, slice_get}
+use Rattle.std.specs.List.{AllByRecursion, slice_get}
 use Rattle.std.proofs.lemmas.List.{length-map, length-set}
 use Rattle.signals.specs.Signals.{zero_of}
 use Rattle.signals.specs.declared.signal.Signal.{Signal}
@@ -37,7 +37,7 @@ starting_shown (Some s) = refl
 
 -- ---- a cycle
 
-module _ (m : Meaning) (law : Lawful m) (page : Page) (f : All (FormedBlock m.shape (kinds_of page)) page.blocks) where
+module _ (m : Meaning) (law : Lawful m) (page : Page) (f : AllByRecursion (FormedBlock m.shape (kinds_of page)) page.blocks) where
   -- the box of a trace with these lamps
   abbrev painted : List Bool → Box
   painted ls = record { page = zeroed page; cells = paint m.shape page.blocks ls; terminals = zeros_from 0 32 }
@@ -108,7 +108,7 @@ module _ (m : Meaning) (law : Lawful m) (page : Page) (f : All (FormedBlock m.sh
 
   -- ---- its lamps
 
-  lamps_painted : (bs : List Block) (ls : List Bool) → All (FormedBlock m.shape (kinds_of page)) bs → length ls ≡ length bs → map lit_block (paint m.shape bs ls) ≡ ls
+  lamps_painted : (bs : List Block) (ls : List Bool) → AllByRecursion (FormedBlock m.shape (kinds_of page)) bs → length ls ≡ length bs → map lit_block (paint m.shape bs ls) ≡ ls
   lamps_painted [] [] a n = refl
   lamps_painted [] (l ∷ ls) a n = absurd (omega arith)
   lamps_painted (b ∷ bs) [] a n = absurd (omega arith)

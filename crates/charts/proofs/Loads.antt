@@ -1,7 +1,7 @@
 -- What load makes of a chart, all together. Assumes nothing.
 use Rattle.std.proofs.Common.{◌≡◌, ℕ, ◌≤◌, ◌⊎◌, List, [], ◌∷◌, ◌++◌, length, Some, None, Ok, Err, Option, Result, sym, refl, ap, ◌∙◌, subst, inl, inr, arith}
 use Rattle.std.proofs.lemmas.List.{length-map}
-use Rattle.std.specs.List.{flat_map, AllByRecursion as All}
+use Rattle.std.specs.List.{flat_map, AllByRecursion}
 use Rattle.charts.specs.Pages.{Page, Shapes, kinds_of}
 use Rattle.charts.specs.Charts.{Bytes, written}
 use Rattle.charts.specs.Loading.{Fault, Raw, raw_bytes, nothing_met, walk_one, walk_two, kinds_in, blocks_in, page_in, after_one, after_two, with_blocks, load}
@@ -36,7 +36,7 @@ bytes_parts : (xs ys : List ℕ) → Bytes (xs ++ ys) → Bytes xs × Bytes ys
 bytes_parts [] ys h = (tt, h)
 bytes_parts (x ∷ xs) ys h = let p = bytes_parts xs ys h.1 in ((h.0, p.0), p.1)
 
-bodies : (rs : List Raw) → Bytes (flat_map raw_bytes rs) → All (λ r. Bytes r.body) rs
+bodies : (rs : List Raw) → Bytes (flat_map raw_bytes rs) → AllByRecursion (λ r. Bytes r.body) rs
 bodies [] h = tt
 bodies (r ∷ rs) h = let p = bytes_parts r.body (flat_map raw_bytes rs) h.1 in (p.0, bodies rs p.1)
 
@@ -96,11 +96,11 @@ module _ (shapes : Shapes) (limit : ℕ) (chart : List ℕ) (page : Page) where
   pub loaded_formed : load shapes limit chart ≡ Ok page → Formed shapes limit page
   loaded_formed e = formed_records (accepted e)
 
-  back : Bytes chart → Accepted shapes limit chart page → All HeldBlock page.blocks × (written page ≡ chart)
+  back : Bytes chart → Accepted shapes limit chart page → AllByRecursion HeldBlock page.blocks × (written page ≡ chart)
   back h a =
       let rs = a.records in
       let b = all_back shapes limit (kinds_in rs) nothing_met rs a.passed a.faultless (bodies rs (subst Bytes a.chart_is h)) in
-      subst (λ p. All HeldBlock p.blocks × (written p ≡ chart)) a.page_is (b.1, b.0 ∙ sym a.chart_is)
+      subst (λ p. AllByRecursion HeldBlock p.blocks × (written p ≡ chart)) a.page_is (b.1, b.0 ∙ sym a.chart_is)
 
   pub loaded_sound : Bytes chart → load shapes limit chart ≡ Ok page → Sound shapes limit page
   loaded_sound h e = formed_sound shapes limit page (loaded_formed e) (back h (accepted e)).0

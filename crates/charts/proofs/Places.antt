@@ -1,7 +1,7 @@
 -- What stands at a place of a list that is made of another. Assumes nothing.
 use Rattle.std.proofs.Common.{◌≡◌, ℕ, zero, suc, ◌<◌, ◌⊎◌, List, [], ◌∷◌, map, length, get_or, set, Some, None, Option, unwrap_or, sym, refl, ap, ◌∙◌, subst, inl, inr, arith}
 use Rattle.std.specs.Option.{option_map}
-use Rattle.std.specs.List.{AllByRecursion as All, slice_get}
+use Rattle.std.specs.List.{AllByRecursion, slice_get}
 use Rattle.blocks.proofs.Answered as Answered
 use Rattle.std.proofs.lemmas.Bool.{cases_eq}
 
@@ -21,7 +21,7 @@ nth_some [] i h = absurd (omega arith)
 nth_some (x ∷ xs) zero h = (x, refl)
 nth_some (x ∷ xs) (suc i) h = nth_some xs i (omega arith)
 
-pub all_nth : {X : Type 0} (P : X → Type 0) (xs : List X) (i : ℕ) (x : X) → All P xs → slice_get xs i ≡ Some x → P x
+pub all_nth : {X : Type 0} (P : X → Type 0) (xs : List X) (i : ℕ) (x : X) → AllByRecursion P xs → slice_get xs i ≡ Some x → P x
 all_nth P [] i x a e = none_some e
 all_nth P (y ∷ ys) zero x a e = let same : y ≡ x = cc in subst P same a.0
 all_nth P (y ∷ ys) (suc i) x a e = all_nth P ys i x a.1 e

@@ -3,7 +3,7 @@ use Rattle.std.proofs.Common.{◌≡◌, ℕ, suc, ◌+◌, ◌*◌, ◌/◌, �
 use Rattle.std.proofs.lemmas.List.{append_assoc}
 use Rattle.std.proofs.lemmas.Bool.{lt-leb}
 use Rattle.std.proofs.lemmas.Bool.Decides.{nat_tests}
-use Rattle.std.specs.List.{flat_map, AllByRecursion as All}
+use Rattle.std.specs.List.{flat_map, AllByRecursion}
 use Rattle.signals.proofs.Codings.{coding_faithful}
 use Rattle.signals.specs.Coding.{word, encoded, decoded}
 use Rattle.signals.specs.Signals.{zero_of}
@@ -112,15 +112,15 @@ module _ (shapes : Shapes) (kinds : List ℕ) where
   output_faultless : (r : OutputRecord) → SoundOutput shapes kinds r → fault_two shapes kinds (output_record r) ≡ None
   output_faultless r s = rw (s.exists, s.wired) (fits_itself s.row)
 
-  outputs_faultless : (rs : List OutputRecord) → All (SoundOutput shapes kinds) rs → FaultlessTwo shapes kinds (map output_record rs)
+  outputs_faultless : (rs : List OutputRecord) → AllByRecursion (SoundOutput shapes kinds) rs → FaultlessTwo shapes kinds (map output_record rs)
   outputs_faultless [] h = tt
   outputs_faultless (r ∷ rs) h = (output_faultless r h.0, outputs_faultless rs h.1)
 
-  records_faultless : (bs : List Block) (rs : List OutputRecord) → All (SoundBlock shapes kinds) bs → All (SoundOutput shapes kinds) rs → FaultlessTwo shapes kinds (map block_record bs ++ map output_record rs)
+  records_faultless : (bs : List Block) (rs : List OutputRecord) → AllByRecursion (SoundBlock shapes kinds) bs → AllByRecursion (SoundOutput shapes kinds) rs → FaultlessTwo shapes kinds (map block_record bs ++ map output_record rs)
   records_faultless [] rs s h = outputs_faultless rs h
   records_faultless (b ∷ bs) rs s h = ((given b s.0).faultless, records_faultless bs rs s.1 h)
 
-  kinds_records : (bs : List Block) (rs : List OutputRecord) → All (SoundBlock shapes kinds) bs → kinds_in (map block_record bs ++ map output_record rs) ≡ map (λ b. b.kind) bs
+  kinds_records : (bs : List Block) (rs : List OutputRecord) → AllByRecursion (SoundBlock shapes kinds) bs → kinds_in (map block_record bs ++ map output_record rs) ≡ map (λ b. b.kind) bs
   kinds_records [] rs s = output_kinds rs
   kinds_records (b ∷ bs) rs s = rw (given b s.0).is (ap (λ ks. b.kind ∷ ks) (kinds_records bs rs s.1))
 
@@ -132,13 +132,13 @@ module _ (shapes : Shapes) (kinds : List ℕ) where
   output_outputs [] = refl
   output_outputs (r ∷ rs) = ap (λ xs. r ∷ xs) (output_outputs rs)
 
-  blocks_again : (bs : List Block) (rs : List OutputRecord) → All (SoundBlock shapes kinds) bs → blocks_in shapes (map block_record bs ++ map output_record rs) ≡ bs
+  blocks_again : (bs : List Block) (rs : List OutputRecord) → AllByRecursion (SoundBlock shapes kinds) bs → blocks_in shapes (map block_record bs ++ map output_record rs) ≡ bs
   blocks_again [] rs s = output_blocks rs
   blocks_again (b ∷ bs) rs s =
       let g = given b s.0 in
       rw g.is (λ i. record { kind = b.kind; pins = g.again i } ∷ blocks_again bs rs s.1 i)
 
-  outputs_again : (bs : List Block) (rs : List OutputRecord) → All (SoundBlock shapes kinds) bs → outputs_in (map block_record bs ++ map output_record rs) ≡ rs
+  outputs_again : (bs : List Block) (rs : List OutputRecord) → AllByRecursion (SoundBlock shapes kinds) bs → outputs_in (map block_record bs ++ map output_record rs) ≡ rs
   outputs_again [] rs s = output_outputs rs
   outputs_again (b ∷ bs) rs s = rw (given b s.0).is (outputs_again bs rs s.1)
 
@@ -152,7 +152,7 @@ module _ (shapes : Shapes) (kinds : List ℕ) where
       below None q = refl
       below (Some u) q = lt-leb r.terminal u q.0
 
-  blocks_pass : (limit n : ℕ) (bs : List Block) (rs : List OutputRecord) → n + length bs ≤ limit → All (SoundBlock shapes kinds) bs → Rising rs
+  blocks_pass : (limit n : ℕ) (bs : List Block) (rs : List OutputRecord) → n + length bs ≤ limit → AllByRecursion (SoundBlock shapes kinds) bs → Rising rs
       → AllPass shapes limit (record { blocks = n; last = None }) (map block_record bs ++ map output_record rs)
   blocks_pass limit n [] rs l s h = outputs_pass limit n None rs tt h
   blocks_pass limit n (b ∷ bs) rs l s h =

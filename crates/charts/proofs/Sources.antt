@@ -3,7 +3,7 @@ use Rattle.std.proofs.Common.{◌≡◌, ℕ, ◌*◌, Bool, true, false, cond, 
 use lib.Ieee.{nan, binary32, of_bits}
 use Rattle.std.proofs.lemmas.Bool.{eqb-true, false≢true}
 use Rattle.std.proofs.lemmas.List.{nil_from_length}
-use Rattle.std.specs.List.{flat_map, AllByRecursion as All}
+use Rattle.std.specs.List.{flat_map, AllByRecursion}
 use Rattle.signals.proofs.Codings.{coding_faithful}
 use Rattle.signals.specs.Coding.{word_of, in_int, at_type, decoded, FourBytes}
 use Rattle.signals.specs.Signals.{type_of, zero_of, clean, Held}
@@ -139,7 +139,7 @@ module _ (shapes : Shapes) (kinds : List ℕ) where
       (pin_supplies shapes kinds t p f.0, body_supplies ts more (omega arith) f.1)
 
   pub body_back : (ts : List SignalType) (body : List ℕ) → length body ≡ 5 * length ts → Bytes body → fault_of_pins shapes kinds ts (pins_in body) ≡ None
-      → (flat_map source_bytes (sources_of ts (pins_in body)) ≡ body) × All HeldSource (sources_of ts (pins_in body))
+      → (flat_map source_bytes (sources_of ts (pins_in body)) ≡ body) × AllByRecursion HeldSource (sources_of ts (pins_in body))
   body_back [] body l h e = (sym (nil_from_length body l), tt)
   body_back (t ∷ ts) [] l h e = absurd (omega arith)
   body_back (t ∷ ts) (g ∷ []) l h e = absurd (omega arith)

@@ -1,6 +1,6 @@
 -- A trace lights exactly the blocks that have the traced one upstream. Assumes nothing.
 use Rattle.std.proofs.Common.{◌≡◌, ℕ, zero, suc, ◌^◌, ◌<◌, ◌≤◌, Bool, true, false, ◌⊎◌, List, [], ◌∷◌, length, set, Some, sym, ap, ◌∙◌, subst, inl, inr, true≢false, le_refl, arith}
-use Rattle.std.specs.List.{AllByRecursion as All, slice_get}
+use Rattle.std.specs.List.{AllByRecursion, slice_get}
 use Rattle.std.proofs.lemmas.List.{length-set, get_or-set_same}
 use Rattle.blocks.specs.Meanings.{Meaning, Lawful}
 use Rattle.charts.specs.Pages.{Block, Page, kinds_of}
@@ -30,7 +30,7 @@ unlit_off [] b e = true≢false (sym e)
 unlit_off (k ∷ bs) zero e = true≢false (sym e)
 unlit_off (k ∷ bs) (suc b) e = unlit_off bs b e
 
-module _ (m : Meaning) (law : Lawful m) (page : Page) (f : All (FormedBlock m.shape (kinds_of page)) page.blocks) (t : ℕ) (h : t < length page.blocks) where
+module _ (m : Meaning) (law : Lawful m) (page : Page) (f : AllByRecursion (FormedBlock m.shape (kinds_of page)) page.blocks) (t : ℕ) (h : t < length page.blocks) where
   -- the lamps that a trace starts from, and those after k cycles
   abbrev first : List Bool
   first = set (unlit page.blocks) t true

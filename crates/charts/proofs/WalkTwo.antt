@@ -1,7 +1,7 @@
 -- Walk two: it passes over records without a fault, and stops at the first with one. Assumes nothing.
 use Rattle.std.proofs.Common.{◌≡◌, ℕ, ◌+◌, List, [], ◌∷◌, ◌++◌, length, Some, None, Option, refl, ap, ◌∙◌, add-zero, arith}
 use Rattle.std.proofs.lemmas.List.{length-append}
-use Rattle.std.specs.List.{flat_map, AllByRecursion as All}
+use Rattle.std.specs.List.{flat_map, AllByRecursion}
 use Rattle.charts.specs.Pages.{Shapes}
 use Rattle.charts.specs.Loading.{Fault, Raw, raw_bytes, fault_two, at_place, walk_two}
 use Rattle.charts.specs.Faults.{FailsTwo, AllPassTwo, none, more}
@@ -10,7 +10,7 @@ use Rattle.charts.proofs.FaultTwo.{two_determined}
 
 module _ (shapes : Shapes) (kinds : List ℕ) where
   abbrev pub FaultlessTwo : List Raw → Type 0
-  FaultlessTwo rs = All (λ r. fault_two shapes kinds r ≡ None) rs
+  FaultlessTwo rs = AllByRecursion (λ r. fault_two shapes kinds r ≡ None) rs
 
   pub walk_faultless : (place : ℕ) (rs : List Raw) → FaultlessTwo rs → walk_two shapes kinds place rs ≡ None
   walk_faultless place [] h = refl

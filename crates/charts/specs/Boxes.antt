@@ -1,6 +1,5 @@
 -- A box: its page, the cells of its blocks and its input terminals; how it is made, and what a cycle and a restart do. Assumes nothing.
-use Rattle.std.specs.Prelude.{◌≡◌, ℕ, zero, suc, ◌<◌, false, cond, List, [], ◌∷◌, map, length, Some, None, Option, nat_lt, slice_index_or, slice_set}
-use Rattle.std.specs.Option.{option_map}
+use Rattle.std.specs.Prelude.{◌≡◌, ℕ, zero, suc, false, cond, List, [], ◌∷◌, map, length, Some, None, Option, nat_lt, slice_index_or, slice_set}
 use Rattle.std.specs.List.{slice_get}
 use Rattle.signals.specs.Signals.{zero_of}
 use Rattle.signals.specs.Terminals.{terminal_type}

@@ -1,6 +1,6 @@
 -- The chart: a page in bytes, as save writes it. Assumes nothing.
 use Rattle.std.specs.Prelude.{ℕ, ◌<◌, List, [], ◌∷◌, ◌++◌}
-use Rattle.std.specs.List.{flat_map, AllByRecursion as All}
+use Rattle.std.specs.List.{flat_map, AllByRecursion}
 use Rattle.signals.specs.Coding.{encoded}
 use Rattle.charts.specs.declared.page.Source.{Source}
 use Rattle.charts.specs.declared.page.OutputRecord.{OutputRecord}
@@ -8,7 +8,7 @@ use Rattle.charts.specs.Pages.{Block, Page}
 
 -- a list of bytes
 abbrev pub Bytes : List ℕ → Type 0
-Bytes = All (λ b. b < 256)
+Bytes = AllByRecursion (λ b. b < 256)
 
 -- A pin source is a tag and four bytes: 0 and a coded constant, 1 and a terminal, 2 and an output of a block.
 abbrev pub source_bytes : Source → List ℕ

@@ -1,5 +1,5 @@
 -- The first fault of a chart, as a relation: whole faultless records, then the faulty one. Assumes nothing.
-use Rattle.std.specs.Prelude.{◌≡◌, ℕ, ◌*◌, ◌<◌, ◌≤◌, true, ◌⊎◌, List, [], ◌∷◌, ◌++◌, length, Some, None, Option, ◌≢◌, slice_index}
+use Rattle.std.specs.Prelude.{◌≡◌, ℕ, ◌<◌, ◌≤◌, true, ◌⊎◌, List, [], ◌∷◌, ◌++◌, length, Some, None, Option, ◌≢◌, slice_index}
 use Rattle.std.specs.List.{flat_map}
 use Rattle.signals.specs.Coding.{decoded}
 use Rattle.signals.specs.Signals.{clean}

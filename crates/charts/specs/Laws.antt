@@ -1,11 +1,11 @@
 -- What is promised of charts and boxes, over every library and every list of calls. Assumes nothing.
-use Rattle.std.specs.Prelude.{◌≡◌, ℕ, ◌<◌, ◌≤◌, true, ◌⊎◌, List, [], map, length, Some, Ok, Err, Result, slice_index_or}
-use Rattle.std.specs.List.{AllByRecursion as All, slice_get}
+use Rattle.std.specs.Prelude.{◌≡◌, ℕ, ◌<◌, ◌≤◌, true, ◌⊎◌, List, [], map, length, Some, Ok, Err, slice_index_or}
+use Rattle.std.specs.List.{AllByRecursion, slice_get}
 use Rattle.signals.specs.Signals.{type_of, Held}
 use Rattle.signals.specs.declared.signal.Signal.{Signal}
 use Rattle.blocks.specs.Meanings.{Shape, Meaning, Lawful, stepped}
 use Rattle.charts.specs.declared.call.Call.{Call}
-use Rattle.charts.specs.Pages.{Block, Page, Shapes, block_limit}
+use Rattle.charts.specs.Pages.{Block, Page, Shapes}
 use Rattle.charts.specs.Charts.{Bytes, written}
 use Rattle.charts.specs.Loading.{Fault, load}
 use Rattle.charts.specs.Soundness.{Sound}
@@ -81,7 +81,7 @@ pub record BoxLaw (m : Meaning) (limit : ℕ) (chart : List ℕ) (page : Page) (
 abbrev pub BoxesLaw : Type 0
 BoxesLaw =
     (m : Meaning) → Lawful m → (limit : ℕ) (chart : List ℕ) (page : Page) → Bytes chart → load m.shape limit chart ≡ Ok page
-    → (calls : List Call) → All HeldCall calls → BoxLaw m limit chart page calls
+    → (calls : List Call) → AllByRecursion HeldCall calls → BoxLaw m limit chart page calls
 
 -- ---- independence
 

@@ -1,6 +1,5 @@
 -- A page: blocks with their pin sources, and output records. Assumes nothing.
 use Rattle.std.specs.Prelude.{ℕ, cond, List, [], map, Some, None, Option, nat_lt}
-use Rattle.std.specs.Option.{option_map}
 use Rattle.std.specs.List.{slice_get}
 use Rattle.signals.specs.declared.signal.SignalType.{SignalType}
 use Rattle.blocks.specs.Meanings.{Shape, with_shape}

@@ -1,6 +1,6 @@
 -- A sound page: everything on it exists and fits. Assumes nothing.
-use Rattle.std.specs.Prelude.{◌≡◌, ℕ, ◌<◌, ◌≤◌, true, List, [], ◌∷◌, length, Some, None}
-use Rattle.std.specs.List.{AllByRecursion as All}
+use Rattle.std.specs.Prelude.{◌≡◌, ℕ, ◌<◌, ◌≤◌, true, List, [], ◌∷◌, length, Some}
+use Rattle.std.specs.List.{AllByRecursion}
 use Rattle.signals.specs.Signals.{type_of, clean, Held}
 use Rattle.signals.specs.Terminals.{terminal_type}
 use Rattle.signals.specs.declared.signal.SignalType.{SignalType}
@@ -37,7 +37,7 @@ pub record SoundOutput (shapes : Shapes) (kinds : List ℕ) (r : OutputRecord) :
 
 -- each output record's terminal lies above those before it
 abbrev pub Above : ℕ → List OutputRecord → Type 0
-Above t rs = All (λ r. t < r.terminal) rs
+Above t rs = AllByRecursion (λ r. t < r.terminal) rs
 
 abbrev pub Rising : List OutputRecord → Type 0
 Rising [] = Unit {0}
@@ -46,6 +46,6 @@ Rising (r ∷ rs) = Above r.terminal rs × Rising rs
 pub record Sound (shapes : Shapes) (limit : ℕ) (page : Page) : Type 0 where
   pub some_blocks : 1 ≤ length page.blocks
   pub few_blocks : length page.blocks ≤ limit
-  pub blocks_sound : All (SoundBlock shapes (kinds_of page)) page.blocks
-  pub outputs_sound : All (SoundOutput shapes (kinds_of page)) page.outputs
+  pub blocks_sound : AllByRecursion (SoundBlock shapes (kinds_of page)) page.blocks
+  pub outputs_sound : AllByRecursion (SoundOutput shapes (kinds_of page)) page.outputs
   pub rising : Rising page.outputs

@@ -1,5 +1,5 @@
 -- Trace: which blocks a signal of one block can reach, found by lamps. Assumes nothing.
-use Rattle.std.specs.Prelude.{◌≡◌, ℕ, zero, suc, ◌+◌, ◌*◌, ◌/◌, ◌%◌, ◌^◌, ◌<◌, Bool, true, false, cond, ◌&&◌, List, [], ◌∷◌, map, length, set, ℤ, pos, Some, Ok, Err, Result, count_ones, from_bits, int_le, nat_lt, slice_index_or, slice_set}
+use Rattle.std.specs.Prelude.{◌≡◌, ℕ, zero, suc, ◌+◌, ◌*◌, ◌/◌, ◌%◌, ◌^◌, ◌<◌, Bool, true, cond, ◌&&◌, List, [], ◌∷◌, map, length, ℤ, pos, Some, Ok, Err, Result, count_ones, from_bits, int_le, nat_lt, slice_index_or, slice_set}
 use Rattle.std.specs.Float.{binary32}
 use Rattle.std.specs.Float.Ieee.{eq}
 use Rattle.std.specs.List.{slice_get}
@@ -8,10 +8,10 @@ use Rattle.signals.specs.declared.signal.Signal.{Signal}
 use Rattle.blocks.specs.Meanings.{Meaning}
 use Rattle.blocks.specs.Layers.{lamp_meaning}
 use Rattle.charts.specs.declared.page.Source.{Source}
-use Rattle.charts.specs.Pages.{Block, Page}
+use Rattle.charts.specs.Pages.{Page}
 use Rattle.charts.specs.Loading.{Fault, load}
 use Rattle.charts.specs.Upstream.{Upstream}
-use Rattle.charts.specs.Boxes.{Cells, Box, made, cycled}
+use Rattle.charts.specs.Boxes.{Box, made, cycled}
 
 -- constants at the zero of their type
 abbrev pub zeroed_source : Source → Source

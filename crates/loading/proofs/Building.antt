@@ -2,7 +2,7 @@
 use Rattle.std.proofs.Common.{◌≡◌, ℕ, ◌-◌, ◌<◌, ◌≤◌, Bool, true, false, cond, List, [], ◌∷◌, ◌++◌, map, length, get_or, take, drop, Some, None, Ok, vec_items, Vec, sym, refl, ap, ◌∙◌, subst, arith}
 use Rattle.std.proofs.lemmas.List.{append_assoc, append-nil, length-append, map_push, take_at, drop_at, take_rest}
 use Rattle.std.proofs.lemmas.Bool.Decides.{nat_tests}
-use Rattle.std.specs.List.{flat_map, AllByRecursion as All}
+use Rattle.std.specs.List.{flat_map, AllByRecursion}
 use Rattle.std.specs.declared.alloc.Global.{Global}
 use Rattle.blocks.specs.Meanings.{Meaning}
 use Rattle.charts.specs.Boxes.{starting}
@@ -85,10 +85,10 @@ pub record UnderWay (m : Meaning) (rs : List Raw) (p : Page) (rest : List ℕ) :
   pub left : List Raw
   pub all : have ++ left ≡ rs
   pub rest_is : rest ≡ flat_map raw_bytes left
-  pub whole : All (Whole m) left
+  pub whole : AllByRecursion (Whole m) left
   pub built : Built m have p
 
-pass_whole : (m : Meaning) (limit : ℕ) (met : Met) (rs : List Raw) → AllPass m.shape limit met rs → All (Whole m) rs
+pass_whole : (m : Meaning) (limit : ℕ) (met : Met) (rs : List Raw) → AllPass m.shape limit met rs → AllByRecursion (Whole m) rs
 pass_whole m limit met [] p = tt
 pass_whole m limit met (r ∷ rs) p = (p.0.whole, pass_whole m limit (then_met met r.kind r.body) rs p.1)
 
@@ -113,9 +113,9 @@ record Next (m : Meaning) (rest : List ℕ) (left : List Raw) : Type 0 where
   kind_is : get_or rest 0 0 ≡ first.kind
   after_is : take (length rest - 1) (drop 1 rest) ≡ first.body ++ flat_map raw_bytes others
   size_is : body_length m.shape (get_or rest 0 0) ≡ Some (length first.body)
-  others_whole : All (Whole m) others
+  others_whole : AllByRecursion (Whole m) others
 
-next : (m : Meaning) (rest : List ℕ) (left : List Raw) → rest ≡ flat_map raw_bytes left → All (Whole m) left → 1 ≤ length rest → Next m rest left
+next : (m : Meaning) (rest : List ℕ) (left : List Raw) → rest ≡ flat_map raw_bytes left → AllByRecursion (Whole m) left → 1 ≤ length rest → Next m rest left
 next m rest [] e w l = let q = ap length e in absurd (omega arith)
 next m rest (r ∷ rs) e w l =
     let k = ap (λ bytes. get_or bytes 0 0) e in

@@ -1,7 +1,7 @@
 -- Walk two as a loop: the records that are left decide the fault. Assumes nothing.
 use Rattle.std.proofs.Common.{◌≡◌, ℕ, suc, ◌+◌, ◌≤◌, List, [], ◌∷◌, ◌++◌, length, get_or, take, drop, Some, None, Ok, Option, unwrap_or, sym, refl, ap, ◌∙◌, subst, arith}
 use Rattle.std.proofs.lemmas.List.{length-append, take_at, drop_at}
-use Rattle.std.specs.List.{flat_map, AllByRecursion as All}
+use Rattle.std.specs.List.{flat_map, AllByRecursion}
 use Rattle.charts.specs.Pages.{Shapes}
 use Rattle.charts.specs.Loading.{Raw, raw_bytes, Met, nothing_met, then_met, body_length, walk_one, fault_two, at_place, walk_two}
 use Rattle.charts.proofs.WalkOne.{AllPass, Walked, walked}
@@ -12,13 +12,13 @@ module _ (shapes : Shapes) (kinds : List ℕ) where
   abbrev Whole : Raw → Type 0
   Whole r = body_length shapes r.kind ≡ Some (length r.body)
 
-  all_whole : (limit : ℕ) (met : Met) (rs : List Raw) → AllPass shapes limit met rs → All Whole rs
+  all_whole : (limit : ℕ) (met : Met) (rs : List Raw) → AllPass shapes limit met rs → AllByRecursion Whole rs
   all_whole limit met [] p = tt
   all_whole limit met (r ∷ rs) p = (p.0.whole, all_whole limit (then_met met r.kind r.body) rs p.1)
 
   -- the rest of a chart with the records rs: whole records, over which the walk from here on is the walk over rs
   abbrev pub RecordsLeft : List Raw → ℕ → List ℕ → Type 0
-  RecordsLeft rs at rest = (todo : List Raw) × (rest ≡ flat_map raw_bytes todo) × (walk_two shapes kinds at todo ≡ walk_two shapes kinds 0 rs) × All Whole todo
+  RecordsLeft rs at rest = (todo : List Raw) × (rest ≡ flat_map raw_bytes todo) × (walk_two shapes kinds at todo ≡ walk_two shapes kinds 0 rs) × AllByRecursion Whole todo
 
   pub records_first : (limit : ℕ) (chart : List ℕ) (rs : List Raw) → walk_one shapes limit nothing_met 0 0 chart ≡ Ok rs → RecordsLeft rs 0 chart
   records_first limit chart rs e =
@@ -35,9 +35,9 @@ module _ (shapes : Shapes) (kinds : List ℕ) where
   -- the record that begins the rest: its kind, its body of n bytes, and the records behind it
   abbrev Next : List Raw → ℕ → List ℕ → ℕ → Type 0
   Next rs at rest n = (later : List Raw) × (drop n (behind_first rest) ≡ flat_map raw_bytes later)
-      × (walk_two shapes kinds at (record { kind = get_or rest 0 0; body = take n (behind_first rest) } ∷ later) ≡ walk_two shapes kinds 0 rs) × All Whole later × (n ≤ length (behind_first rest))
+      × (walk_two shapes kinds at (record { kind = get_or rest 0 0; body = take n (behind_first rest) } ∷ later) ≡ walk_two shapes kinds 0 rs) × AllByRecursion Whole later × (n ≤ length (behind_first rest))
 
-  next_whole : (rs : List Raw) (at : ℕ) (r : Raw) (later : List Raw) (n : ℕ) → n ≡ length r.body → walk_two shapes kinds at (r ∷ later) ≡ walk_two shapes kinds 0 rs → All Whole later
+  next_whole : (rs : List Raw) (at : ℕ) (r : Raw) (later : List Raw) (n : ℕ) → n ≡ length r.body → walk_two shapes kinds at (r ∷ later) ≡ walk_two shapes kinds 0 rs → AllByRecursion Whole later
       → Next rs at (flat_map raw_bytes (r ∷ later)) n
   next_whole rs at r later n q d w =
       let tail = r.body ++ flat_map raw_bytes later in
@@ -54,7 +54,7 @@ module _ (shapes : Shapes) (kinds : List ℕ) where
     turn : Next rs at rest n
     turn = go left.0 left.1 left.2 left.3
       where
-        go : (todo : List Raw) → rest ≡ flat_map raw_bytes todo → walk_two shapes kinds at todo ≡ walk_two shapes kinds 0 rs → All Whole todo → Next rs at rest n
+        go : (todo : List Raw) → rest ≡ flat_map raw_bytes todo → walk_two shapes kinds at todo ≡ walk_two shapes kinds 0 rs → AllByRecursion Whole todo → Next rs at rest n
         go [] e d w = let none = ap length e in absurd (omega arith)
         go (r ∷ later) e d w =
             let size : n ≡ length r.body = sized ∙ ap (λ p. unwrap_or p 0) known ∙ ap (λ bytes. unwrap_or (body_length shapes (get_or bytes 0 0)) 0) e ∙ ap (λ p. unwrap_or p 0) w.0 in

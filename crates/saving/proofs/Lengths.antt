@@ -1,6 +1,6 @@
 -- How long a chart is, where a usize may not hold it. Assumes nothing.
 use Rattle.std.proofs.Common.{◌≡◌, ℕ, suc, ◌+◌, ◌*◌, ◌^◌, ◌<◌, ◌≤◌, Bool, true, false, cond, ltb, List, [], ◌∷◌, length, Some, None, sym, refl, ap, ◌∙◌, mul-zero, mul-suc, arith}
-use Rattle.std.specs.List.{flat_map, AllByRecursion as All}
+use Rattle.std.specs.List.{flat_map, AllByRecursion}
 use Rattle.std.proofs.lemmas.List.{length-append}
 use Rattle.std.proofs.lemmas.Bool.{ltb-false, le-ltb, cond-false}
 use Rattle.signals.specs.declared.signal.SignalType.{SignalType}
@@ -48,20 +48,20 @@ fed_length shapes kinds [] (x ∷ xs) h = absurd h
 fed_length shapes kinds (t ∷ ts) [] h = absurd h
 fed_length shapes kinds (t ∷ ts) (x ∷ xs) h = ap suc (fed_length shapes kinds ts xs h.1)
 
-blocks_below : (m : Meaning) → Lawful m → (kinds : List ℕ) (bs : List Block) → All (SoundBlock m.shape kinds) bs → length (flat_map block_bytes bs) ≤ 41 * length bs
+blocks_below : (m : Meaning) → Lawful m → (kinds : List ℕ) (bs : List Block) → AllByRecursion (SoundBlock m.shape kinds) bs → length (flat_map block_bytes bs) ≤ 41 * length bs
 blocks_below m law kinds [] h = omega arith
 blocks_below m law kinds (b ∷ bs) h =
     let s = h.0 in
     let few = (law.sized b.kind s.form s.formed).few_pins in
     omega (arith, length-append (block_bytes b) (flat_map block_bytes bs), block_length b, fed_length m.shape kinds s.form.pins b.pins s.fed, blocks_below m law kinds bs h.1)
 
-outputs_from : (shapes : Shapes) (kinds : List ℕ) (t : ℕ) (rs : List OutputRecord) → t < 32 → Above t rs → All (SoundOutput shapes kinds) rs → Rising rs → t + length rs < 32
+outputs_from : (shapes : Shapes) (kinds : List ℕ) (t : ℕ) (rs : List OutputRecord) → t < 32 → Above t rs → AllByRecursion (SoundOutput shapes kinds) rs → Rising rs → t + length rs < 32
 outputs_from shapes kinds t [] l a h up = omega arith
 outputs_from shapes kinds t (r ∷ rs) l a h up =
     let next = a.0 in
     omega (arith, outputs_from shapes kinds r.terminal rs (terminal_below r.terminal h.0.row h.0.exists) up.0 h.1 up.1)
 
-outputs_few : (shapes : Shapes) (kinds : List ℕ) (rs : List OutputRecord) → All (SoundOutput shapes kinds) rs → Rising rs → length rs ≤ 32
+outputs_few : (shapes : Shapes) (kinds : List ℕ) (rs : List OutputRecord) → AllByRecursion (SoundOutput shapes kinds) rs → Rising rs → length rs ≤ 32
 outputs_few shapes kinds [] h up = omega arith
 outputs_few shapes kinds (r ∷ rs) h up = omega (arith, outputs_from shapes kinds r.terminal rs (terminal_below r.terminal h.0.row h.0.exists) up.0 h.1 up.1)
 

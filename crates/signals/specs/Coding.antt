@@ -6,7 +6,7 @@ use Rattle.std.proofs.Common.{of_z, to_z}
 use Rattle.signals.specs.Signals.{type_of, Held}
 use Rattle.signals.specs.declared.signal.Signal.{Signal}
 use Rattle.signals.specs.declared.signal.SignalType.{SignalType}
-use Rattle.std.specs.List.{AllByRecursion as All}
+use Rattle.std.specs.List.{AllByRecursion}
 
 -- The 32 bits of a signal: a two's complement number, for REAL its pattern. What is not a number has the pattern 7FC00000.
 abbrev pub word : Signal → ℕ
@@ -38,7 +38,7 @@ abbrev pub decoded : SignalType → List ℕ → Option Signal
 decoded t bs = at_type t (word_of bs)
 
 abbrev pub FourBytes : List ℕ → Type 0
-FourBytes bs = (length bs ≡ 4) × All (λ b. b < 256) bs
+FourBytes bs = (length bs ≡ 4) × AllByRecursion (λ b. b < 256) bs
 
 -- four bytes as a two's complement number
 abbrev pub number_of : List ℕ → ℤ

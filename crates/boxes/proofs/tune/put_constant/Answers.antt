@@ -13,6 +13,6 @@ returns-in-Some c =
       cells = cells_kept p c.args.block c.in-Some.found.now put.new.block held put.ensures.cells;
     }
 
-pub returns-in-default : goal.returns-in-default
-returns-in-default c =
-    record { page = none_tuned c.args.page.now c.args.block c.args.pin c.args.signal (lacking _ _ _ refl c.in-default.ensures.item.0); cells = refl }
+pub returns-in_default : goal.returns-in_default
+returns-in_default c =
+    record { page = none_tuned c.args.page.now c.args.block c.args.pin c.args.signal (lacking _ _ _ refl c.in_default.ensures.item.0); cells = refl }

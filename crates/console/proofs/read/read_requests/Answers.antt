@@ -3,10 +3,10 @@ use Rattle.std.proofs.ResultArms.{chosen}
 use Rattle.console.proofs.Reading.{ends, stops, goes_on}
 use Rattle.console.proofs.read.read_requests.Goals as goal
 
-pub returns-in-default-request_of : goal.returns-in-default-request_of
-returns-in-default-request_of c =
+pub returns-in_default-request_of : goal.returns-in_default-request_of
+returns-in_default-request_of c =
     let some : 1 ≤ length c.loop-rest.rest.now = omega (arith, ltb-true, ltb-false) in
-    stops c.args.bytes.now (vec_items c.loop-rest.items) c.loop-rest.rest.now c.loop-rest.invariant some (sym c.in-default-request_of.ensures.request)
+    stops c.args.bytes.now (vec_items c.loop-rest.items) c.loop-rest.rest.now c.loop-rest.invariant some (sym c.in_default-request_of.ensures.request)
 
 pub loop-rest-preserved : goal.loop-rest-preserved
 loop-rest-preserved c =

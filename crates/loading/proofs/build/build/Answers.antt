@@ -2,7 +2,7 @@ use Rattle.std.proofs.Common.{◌<◌, ◌≤◌, length, rules}
 use Rattle.charts.specs.Pages.{block_limit}
 use Rattle.loading.proofs.Building.{begun, further, ended, never_unknown, never_cut}
 use Rattle.loading.proofs.build.build.Goals as goal
-use Rattle.loading.proofs.build.build.Goals.{in-default, in-len1-up+in-default-body_length, in-len1-up+in-Some+then-after-size}
+use Rattle.loading.proofs.build.build.Goals.{in_default, in-len1-up+in_default-body_length, in-len1-up+in-Some+then-after-size}
 
 pub loop-rest-init : goal.loop-rest-init
 loop-rest-init g c rs e =
@@ -20,10 +20,10 @@ returns g c rs e =
     let m = g.L.Library.meaning c.args.library.now in
     let rest = c.loop-rest.rest.now in
     elim c.if-rest-lt1.branch [
-      | in-default w ↦ let none : length rest < 1 = search rules in ended m rs c.loop-rest.page rest (c.loop-rest.invariant rs e) none
-      | in-len1-up+in-default-body_length w ↦
+      | in_default w ↦ let none : length rest < 1 = search rules in ended m rs c.loop-rest.page rest (c.loop-rest.invariant rs e) none
+      | in-len1-up+in_default-body_length w ↦
           let some : 1 ≤ length rest = search rules in
-          absurd (never_unknown m rs c.loop-rest.page rest (c.loop-rest.invariant rs e) some w.in-default-body_length.ensures)
+          absurd (never_unknown m rs c.loop-rest.page rest (c.loop-rest.invariant rs e) some w.in_default-body_length.ensures)
       | in-len1-up+in-Some+then-after-size w ↦
           let some : 1 ≤ length rest = search rules in
           absurd (never_cut m rs c.loop-rest.page rest (c.loop-rest.invariant rs e) w.in-Some.size some w.in-Some.ensures w.if-after-size.true)

@@ -3,7 +3,7 @@ use Rattle.charts.specs.Loading.{pins_of}
 use Rattle.loading.specs.Built.{sources_in}
 use Rattle.loading.proofs.BlockParts.{pin_more, pins_end, pins_out}
 use Rattle.loading.proofs.build.read_pins.Goals as goal
-use Rattle.loading.proofs.build.read_pins.Goals.{in-default, in-len5-up+in-default-pin_type}
+use Rattle.loading.proofs.build.read_pins.Goals.{in_default, in-len5-up+in_default-pin_type}
 
 pub loop-rest-preserved : goal.loop-rest-preserved
 loop-rest-preserved g c =
@@ -21,7 +21,7 @@ returns g c =
     let rest = c.loop-rest.rest.now in
     let all = sources_in m c.args.kind c.args.body.now in
     elim c.if-rest-lt5.branch [
-      | in-default w ↦ let short : length rest < 5 = search rules in pins_end (drop (vec_len pins) (pins_of (m.shape c.args.kind))) rest (vec_items pins) all c.loop-rest.invariant short
-      | in-len5-up+in-default-pin_type w ↦
-          pins_out m c.args.kind w.len.result (vec_len pins) w.len.ensures rest (vec_items pins) all c.loop-rest.invariant w.in-default-pin_type.ensures
+      | in_default w ↦ let short : length rest < 5 = search rules in pins_end (drop (vec_len pins) (pins_of (m.shape c.args.kind))) rest (vec_items pins) all c.loop-rest.invariant short
+      | in-len5-up+in_default-pin_type w ↦
+          pins_out m c.args.kind w.len.result (vec_len pins) w.len.ensures rest (vec_items pins) all c.loop-rest.invariant w.in_default-pin_type.ensures
     ]

@@ -17,4 +17,4 @@ loop-signal-preserved g c =
 pub returns : goal.returns
 returns g c =
     cells_all (g.L.Library.meaning c.args.library.now) c.args.kind c.len.result (vec_len c.loop-signal.cells) c.len.ensures
-    (vec_items c.loop-signal.cells) c.in-default.ensures c.loop-signal.invariant
+    (vec_items c.loop-signal.cells) c.in_default.ensures c.loop-signal.invariant

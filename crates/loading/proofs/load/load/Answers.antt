@@ -3,13 +3,13 @@ use Rattle.loading.proofs.load.load.Goals as goal
 
 pub returns-in_err-kinds : goal.returns-in_err-kinds
 returns-in_err-kinds g c =
-    let h = one_refused (g.L.Library.meaning c.args.library.now) c.args.chart.now c.in_err-kinds.field-0.0 c.from-residual.result c.in_err-kinds.ensures c.from-residual.ensures.1 in
+    let h = one_refused (g.L.Library.meaning c.args.library.now) c.args.chart.now c.in_err-kinds.field-0.0 c.from_residual.result c.in_err-kinds.ensures c.from_residual.ensures.1 in
     record { loaded = h.0; means = h.1 }
 
 pub returns-in_err-refuse : goal.returns-in_err-refuse
 returns-in_err-refuse g c =
     let h = two_refused (g.L.Library.meaning c.args.library.now) c.args.chart.now c.in_ok-kinds.kinds c.deref.result.now c.deref.ensures.value c.in_ok-kinds.ensures
-    c.walk_two.result c.walk_two.ensures c.in_err-refuse.field-0.0 c.in_err-refuse.ensures c.from-residual-in_err-refuse.result c.from-residual-in_err-refuse.ensures.1 in
+    c.walk_two.result c.walk_two.ensures c.in_err-refuse.field-0.0 c.in_err-refuse.ensures c.from_residual-in_err-refuse.result c.from_residual-in_err-refuse.ensures.1 in
     record { loaded = h.0; means = h.1 }
 
 pub returns : goal.returns

@@ -16,7 +16,7 @@ pub overflow_add-at : goal.overflow_add-at
 overflow_add-at g c =
     let some : 1 ≤ length c.loop-rest.rest.now = omega (arith, ltb-true, ltb-false) in
     let fits = turn_fits (g.L.Library.meaning c.args.library.now).shape block_limit c.args.chart.now (vec_items c.loop-rest.kinds) c.loop-rest.last c.loop-rest.at c.loop-rest.rest.now
-    c.loop-rest.invariant some c.len.result (c.len.ensures ∙ c.loop-rest.kinds.ok.0) c.body_length-length.result c.body_length-length.ensures c.in-default-fault_one.ensures
+    c.loop-rest.invariant some c.len.result (c.len.ensures ∙ c.loop-rest.kinds.ok.0) c.body_length-length.result c.body_length-length.ensures c.in_default-fault_one.ensures
     c.unwrap_or-length.result c.unwrap_or-length.ensures in
     omega arith
 
@@ -24,7 +24,7 @@ pub overflow_add-at-in-len1-up : goal.overflow_add-at-in-len1-up
 overflow_add-at-in-len1-up g c =
     let some : 1 ≤ length c.loop-rest.rest.now = omega (arith, ltb-true, ltb-false) in
     let fits = turn_fits (g.L.Library.meaning c.args.library.now).shape block_limit c.args.chart.now (vec_items c.loop-rest.kinds) c.loop-rest.last c.loop-rest.at c.loop-rest.rest.now
-    c.loop-rest.invariant some c.len.result (c.len.ensures ∙ c.loop-rest.kinds.ok.0) c.body_length-length.result c.body_length-length.ensures c.in-default-fault_one.ensures
+    c.loop-rest.invariant some c.len.result (c.len.ensures ∙ c.loop-rest.kinds.ok.0) c.body_length-length.result c.body_length-length.ensures c.in_default-fault_one.ensures
     c.unwrap_or-length.result c.unwrap_or-length.ensures in
     omega arith
 
@@ -32,7 +32,7 @@ pub loop-rest-preserved : goal.loop-rest-preserved
 loop-rest-preserved g c =
     let some : 1 ≤ length c.loop-rest.rest.now = omega (arith, ltb-true, ltb-false) in
     turn_passes (g.L.Library.meaning c.args.library.now).shape block_limit c.args.chart.now (vec_items c.loop-rest.kinds) c.loop-rest.last c.loop-rest.at c.loop-rest.rest.now
-    c.loop-rest.invariant some c.len.result (c.len.ensures ∙ c.loop-rest.kinds.ok.0) c.body_length-length.result c.body_length-length.ensures c.in-default-fault_one.ensures
+    c.loop-rest.invariant some c.len.result (c.len.ensures ∙ c.loop-rest.kinds.ok.0) c.body_length-length.result c.body_length-length.ensures c.in_default-fault_one.ensures
     c.unwrap_or-length.result c.unwrap_or-length.ensures (vec_items c.keep_kind.new.kinds) c.in_ok-keep_kind.ensures c.last_terminal-last.result c.last_terminal-last.ensures
 
 pub returns-then-is_empty : goal.returns-then-is_empty

@@ -7,7 +7,7 @@ pub returns : goal.returns
 returns g c =
     let m = g.L.Library.meaning c.args.library.now in
     let kept = c.step.auto.cells in
-    let lent = c.deref-mut.ensures in
+    let lent = c.deref_mut.ensures in
     record {
       kind = refl;
       pins = refl;

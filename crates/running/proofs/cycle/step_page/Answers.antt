@@ -11,7 +11,7 @@ returns g c =
     let m = l.meaning c.args.library.now in
     let law = l.lawful c.args.library.now in
     let x = box_of c.args.page.now c.args.terminals.now in
-    let is = turned_page m c.args.page.now c.args.terminals.now c.deref-mut.result.now c.step_all.new.blocks c.deref-mut.ensures.value c.step_all.auto.blocks c.step_all.ensures in
+    let is = turned_page m c.args.page.now c.args.terminals.now c.deref_mut.result.now c.step_all.new.blocks c.deref_mut.ensures.value c.step_all.auto.blocks c.step_all.ensures in
     let Obeys : Box → Type 0 = CycleLaw m x in
     record {
       cycled = is;

@@ -7,7 +7,7 @@ pub returns : goal.returns
 returns g c =
     let b = c.args.block.now in
     let kept = c.lay_start.auto.cells in
-    let lent = c.deref-mut.ensures in
+    let lent = c.deref_mut.ensures in
     record {
       kind = refl;
       pins = refl;

@@ -6,7 +6,7 @@ use Rattle.tracing.proofs.dim.dim_block.Goals as goal
 pub returns : goal.returns
 returns c =
     let kept = c.dim_pins.auto.pins in
-    let lent = c.deref-mut.ensures in
+    let lent = c.deref_mut.ensures in
     record {
       kind = refl;
       pins = with_items_is c.args.block.now.pins c.dim_pins.new.pins (omega arith) ∙ c.dim_pins.ensures ∙ ap (map zeroed_source) lent.value;

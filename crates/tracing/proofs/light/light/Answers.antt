@@ -14,8 +14,8 @@ returns-then-block-len c =
     let count = c.len.ensures in
     let lt : c.args.block < length (vec_items p.blocks) = omega (arith, p.blocks.ok.0) in
     record {
-      page = lighted_page p c.args.block _ c.index-mut.result.now y c.index-mut.ensures.value lt done.kind done.pins;
-      cells = lighted_cells p c.args.block _ c.index-mut.result.now y c.index-mut.ensures.value lt done.cells;
+      page = lighted_page p c.args.block _ c.index_mut.result.now y c.index_mut.ensures.value lt done.kind done.pins;
+      cells = lighted_cells p c.args.block _ c.index_mut.result.now y c.index_mut.ensures.value lt done.cells;
     }
 
 pub returns-else-block-len : goal.returns-else-block-len

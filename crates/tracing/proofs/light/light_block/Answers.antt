@@ -6,7 +6,7 @@ use Rattle.tracing.proofs.light.light_block.Goals as goal
 pub returns : goal.returns
 returns c =
     let kept = c.set_all.auto.cells in
-    let lent = c.deref-mut.ensures in
+    let lent = c.deref_mut.ensures in
     record {
       kind = refl;
       pins = refl;
