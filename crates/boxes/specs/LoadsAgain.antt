@@ -1,5 +1,5 @@
 -- The saved chart of a sound box loads as the box's page. Assumes nothing.
-use Rattle.std.specs.Prelude.{◌≡◌, ℕ, Ok, Err}
+use Rattle.std.specs.Prelude.{◌≡◌, ℕ, Ok}
 use Rattle.blocks.specs.Meanings.{Meaning}
 use Rattle.charts.specs.Boxes.{Box}
 use Rattle.charts.specs.Charts.{written}

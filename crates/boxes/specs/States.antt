@@ -1,10 +1,9 @@
 -- What a loader and a box stand for. Assumes nothing.
 use Rattle.std.specs.Prelude.{◌≡◌, ℕ, List, Ok, Err, Result}
 use Rattle.blocks.specs.Meanings.{Meaning}
-use Rattle.charts.specs.Pages as Pages
 use Rattle.charts.specs.Pages.{block_limit}
 use Rattle.charts.specs.Loading as Loading
-use Rattle.charts.specs.Boxes.{Box, Cells, made, zeros_from}
+use Rattle.charts.specs.Boxes.{Box, made, zeros_from}
 use Rattle.loading.specs.declared.fault.LoadError.{LoadError}
 use Rattle.loading.specs.FaultNumbers.{fault_number}
 use Rattle.loading.specs.Models.{page_model, cells_model}

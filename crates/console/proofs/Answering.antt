@@ -2,7 +2,6 @@
 use Rattle.std.proofs.Common.{◌≡◌, ℕ, Bool, true, false, cond, not, List, is_some, Some, None, Option, unwrap_or, sym, refl, ap, ◌∙◌}
 use lib.Ieee.{binary32, of_bits}
 use Rattle.signals.specs.Coding.{decoded}
-use Rattle.signals.specs.Terminals.{terminal_type}
 use Rattle.signals.specs.declared.signal.Signal.{Signal}
 use Rattle.signals.specs.declared.signal.SignalType.{SignalType}
 use Rattle.blocks.specs.Meanings.{Meaning}
@@ -10,7 +9,7 @@ use Rattle.charts.specs.declared.call.Reply.{Reply}
 use Rattle.charts.specs.declared.page.Source.{Source}
 use Rattle.charts.specs.Pages.{source}
 use Rattle.charts.specs.Boxes.{Box}
-use Rattle.charts.specs.Calls.{Outcome, settled, refusal_of_signal, refusal_of_type, sample_refusal, tune_refusal, is_constant, sampled, tuned}
+use Rattle.charts.specs.Calls.{Outcome, settled, refusal_of_signal, refusal_of_type, sample_refusal, tune_refusal, sampled, tuned}
 use Rattle.charts.proofs.Places.{none_some}
 use Rattle.console.specs.declared.line.Line.{Line}
 use Rattle.console.specs.Asked.{outside, signal_of, pin_type, printed, line_of}

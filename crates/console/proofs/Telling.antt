@@ -1,6 +1,5 @@
 -- What is printed for the box made of an accepted chart. Assumes nothing.
 use Rattle.std.proofs.Common.{◌≡◌, ℕ, List, IfOk, Ok, Err, Result, inl}
-use Rattle.std.specs.Vec as Vec
 use Rattle.blocks.specs.Meanings.{Meaning, Lawful}
 use Rattle.charts.specs.Pages.{Page, block_limit}
 use Rattle.charts.specs.Loading.{load}

@@ -1,5 +1,5 @@
 -- What a request asks of a box, and the line that answers it. Assumes nothing.
-use Rattle.std.specs.Prelude.{ℕ, Bool, true, false, cond, not, ◌&&◌, List, [], ◌∷◌, ◌++◌, is_some, Some, None, Ok, Err, Option, Result, ◌==◌, from_bits}
+use Rattle.std.specs.Prelude.{ℕ, Bool, false, cond, not, ◌&&◌, List, is_some, Some, None, Ok, Err, Option, Result, ◌==◌, from_bits}
 use Rattle.std.specs.Float.{binary32}
 use Rattle.std.specs.Option.{unwrap_or}
 use Rattle.std.specs.List.{slice_get}
@@ -15,7 +15,6 @@ use Rattle.charts.specs.Boxes.{Box}
 use Rattle.charts.specs.Calls.{pin_type_at, perform}
 use Rattle.console.specs.declared.line.Line.{Line}
 use Rattle.console.specs.declared.request.Request.{Request}
-use Rattle.console.specs.Lines.{line_text}
 
 -- the types that a sample's and a tune's signals are coded at
 abbrev pub pin_type : Meaning → Box → ℕ → ℕ → Option SignalType

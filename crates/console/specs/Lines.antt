@@ -1,8 +1,7 @@
 -- The lines that a run prints. Assumes nothing.
-use Rattle.std.specs.Prelude.{ℕ, ◌+◌, ◌/◌, ◌%◌, Bool, cond, List, [], ◌∷◌, ◌++◌, codes, decimal, nat_lt, slice_index}
+use Rattle.std.specs.Prelude.{ℕ, ◌+◌, ◌/◌, ◌%◌, cond, List, [], ◌∷◌, ◌++◌, codes, decimal, nat_lt, slice_index}
 use Rattle.signals.specs.Coding.{encoded}
 use Rattle.signals.specs.Signals.{type_of}
-use Rattle.signals.specs.declared.signal.Signal.{Signal}
 use Rattle.signals.specs.declared.signal.SignalType.{SignalType}
 use Rattle.console.specs.declared.line.Line.{Line}
 

@@ -5,7 +5,7 @@ use Rattle.charts.specs.declared.call.Call.{Call}
 use Rattle.charts.specs.Pages.{Page, block_limit}
 use Rattle.charts.specs.Loading.{load}
 use Rattle.charts.specs.Boxes.{Box, made}
-use Rattle.charts.specs.Calls.{perform, run}
+use Rattle.charts.specs.Calls.{run}
 use Rattle.charts.specs.Laws.{SameShapes, Independent}
 use Rattle.boxes.specs.States.{box_model}
 use Rattle.boxes.specs.declared.gate_box.GateBox.{GateBox}

@@ -1,8 +1,7 @@
 -- The meanings of the standard and the house library, and that they are lawful. Assumes nothing.
-use Rattle.std.specs.Prelude.{◌≡◌, ℕ, zero, suc, ◌≤◌, List, [], ◌∷◌, map, length, Some, None, Option, refl}
+use Rattle.std.specs.Prelude.{◌≡◌, ℕ, zero, suc, ◌≤◌, List, [], map, length, Some, None, Option, refl}
 use Rattle.std.proofs.Common.{ap, subst, ◌∙◌, arith, lit≤}
 use Rattle.std.specs.Option.{option_map}
-use Rattle.std.specs.List.{slice_get}
 use Rattle.std.proofs.lemmas.Option.{slice_get_past}
 use Rattle.signals.specs.Signals.{type_of}
 use Rattle.signals.specs.declared.signal.Signal.{Signal}

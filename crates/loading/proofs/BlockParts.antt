@@ -1,11 +1,10 @@
 -- The parts of a block that a library is asked for: its pins and their sources, and its starting cells. Assumes nothing.
 use Rattle.std.proofs.Common.{◌≡◌, ℕ, zero, suc, ◌+◌, ◌-◌, ◌<◌, ◌≤◌, List, [], ◌∷◌, ◌++◌, length, get_or, take, drop, Some, None, Option, sym, refl, ap, ◌∙◌, add-one, arith}
 use Rattle.std.proofs.lemmas.List.{append_assoc, append-nil, drop_all, take_all, take_rest}
-use Rattle.std.specs.Option.{option_map}
 use Rattle.std.specs.List.{slice_get}
 use Rattle.signals.specs.declared.signal.Signal.{Signal}
 use Rattle.signals.specs.declared.signal.SignalType.{SignalType}
-use Rattle.blocks.specs.Meanings.{Shape, Meaning, Lawful, with_shape, counts, counts_of, start_of, pin_type_of}
+use Rattle.blocks.specs.Meanings.{Shape, Meaning, with_shape, start_of, pin_type_of}
 use Rattle.charts.specs.Boxes.{starting, starting_as}
 use Rattle.charts.specs.Loading.{Pin, pins_of, pins_in, source_of, sources_of}
 use Rattle.charts.specs.declared.page.Source.{Source}

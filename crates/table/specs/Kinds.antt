@@ -1,7 +1,5 @@
 -- The kinds of the standard and the house library: numbers, pins, starting cells and outputs. Assumes nothing.
-use Rattle.std.specs.Prelude.{ℕ, zero, suc, true, false, List, [], ◌∷◌, map, pos, Some, None, Option}
-use Rattle.std.specs.Float.{binary32}
-use Rattle.std.specs.Float.Ieee.{of_bits}
+use Rattle.std.specs.Prelude.{ℕ, zero, suc, true, false, List, [], ◌∷◌, map, pos, None, Option}
 use Rattle.std.specs.List.{slice_get}
 use Rattle.signals.specs.Real.{zero_real}
 use Rattle.signals.specs.Signals.{type_of}

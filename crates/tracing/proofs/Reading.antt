@@ -1,5 +1,5 @@
 -- The set of lit blocks, read from the last block down. Assumes nothing.
-use Rattle.std.proofs.Common.{◌≡◌, ℕ, ◌+◌, ◌-◌, ◌*◌, ◌^◌, ◌<◌, ◌≤◌, Bool, false, cond, List, [], map, length, get_or, drop, vec_items, sym, ap, ◌∙◌, arith, pow_mono}
+use Rattle.std.proofs.Common.{◌≡◌, ℕ, ◌+◌, ◌*◌, ◌^◌, ◌<◌, ◌≤◌, Bool, false, cond, List, [], map, length, get_or, drop, vec_items, sym, ap, ◌∙◌, arith, pow_mono}
 use Rattle.std.proofs.lemmas.List.{length-map, length-drop, get_or-map, drop_all, at_drop_more}
 use Rattle.charts.specs.Tracing.{lit_block, set_of}
 use Rattle.charts.proofs.Words.{set_below}

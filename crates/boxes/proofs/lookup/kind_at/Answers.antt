@@ -1,4 +1,4 @@
-use Rattle.std.proofs.Common.{[], Some, None}
+use Rattle.std.proofs.Common.{Some, None}
 use Rattle.boxes.proofs.Looks.{found, lacking, kind_by}
 use Rattle.boxes.proofs.lookup.kind_at.Goals as goal
 

@@ -1,4 +1,4 @@
-use Rattle.std.proofs.Common.{◌≡◌, ◌∙◌}
+use Rattle.std.proofs.Common.{◌∙◌}
 use Rattle.charts.specs.Calls.{run, answers}
 use Rattle.charts.specs.Pages.{block_limit}
 use Rattle.charts.proofs.Independence.{cells_by_upstream}

@@ -1,4 +1,4 @@
-use Rattle.std.proofs.Common.{sym, rules}
+use Rattle.std.proofs.Common.{rules}
 use Rattle.examples.proofs.Starts.{started}
 use Rattle.examples.proofs.block.first_cells.Goals as goal
 

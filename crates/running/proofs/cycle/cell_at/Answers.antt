@@ -1,4 +1,4 @@
-use Rattle.std.proofs.Common.{[], get_or, vec_items, sym, ap, ◌∙◌, arith}
+use Rattle.std.proofs.Common.{[], vec_items, sym, ap, ◌∙◌, arith}
 use Rattle.std.proofs.lemmas.List.{length-map, get_or-map, get_or_past}
 use Rattle.charts.specs.Boxes.{signal_at}
 use Rattle.loading.specs.declared.page.Block.{Block}

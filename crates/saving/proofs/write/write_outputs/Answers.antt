@@ -1,5 +1,4 @@
 use Rattle.std.proofs.Common.{length, get_or, refl, arith}
-use Rattle.charts.specs.declared.page.OutputRecord.{OutputRecord}
 use Rattle.charts.specs.Charts.{output_bytes}
 use Rattle.saving.proofs.Filling.{filled_none, filled_more, filled_all, filled_room}
 use Rattle.saving.proofs.write.write_outputs.Goals as goal

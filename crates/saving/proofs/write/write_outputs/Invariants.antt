@@ -1,4 +1,3 @@
-use Rattle.std.proofs.Common.{take}
 use Rattle.charts.specs.Charts.{output_bytes}
 use Rattle.saving.proofs.Filling.{Filled}
 use Rattle.saving.proofs.write.write_outputs.Given as goal

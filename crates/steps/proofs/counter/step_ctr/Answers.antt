@@ -1,4 +1,4 @@
-use Rattle.std.proofs.Common.{◌≡◌, Bool, true, cond, ◌&&◌, Ok, Err, sym, ap, ◌∙◌}
+use Rattle.std.proofs.Common.{◌≡◌, true, cond, ◌&&◌, Ok, Err, sym, ap, ◌∙◌}
 use Rattle.blocks.specs.Meanings.{typed}
 use Rattle.rules.specs.Counter.{counted}
 use Rattle.table.specs.Kinds.{pin_types, shape_of}

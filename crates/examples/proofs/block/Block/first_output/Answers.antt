@@ -1,4 +1,4 @@
-use Rattle.std.proofs.Common.{◌≡◌, vec_items, sym, ap, ◌∙◌}
+use Rattle.std.proofs.Common.{◌≡◌, vec_items, ap, ◌∙◌}
 use Rattle.std.specs.List.{slice_get}
 use Rattle.examples.proofs.Cells.{first_is}
 use Rattle.examples.proofs.block.Block.first_output.Goals as goal
