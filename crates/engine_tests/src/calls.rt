@@ -1,5 +1,5 @@
 // Every refusal of every call on a box, in the order of the tests, and that a refused call alters nothing.
-use crate::table::{CYCLE, Expected, RESTART, bool_at, dint_at, held};
+use crate::expected::{CYCLE, Expected, RESTART, bool_at, dint_at, held};
 use charts::Call;
 use signals::Signal;
 use std::test::Fail;

@@ -1,5 +1,5 @@
 // Every fault of a chart at its border: the number, the place, and the chart next to it that is accepted.
-use crate::table::{fault, is_accepted};
+use crate::expected::{fault, is_accepted};
 use std::process::Abort;
 
 #[derive(Clone, Copy)]

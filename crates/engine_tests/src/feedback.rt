@@ -1,5 +1,5 @@
 // Charts that feed back.
-use crate::table::{CYCLE, Expected, RESTART, bool_at, held, int_at};
+use crate::expected::{CYCLE, Expected, RESTART, bool_at, held, int_at};
 use charts::Call;
 use signals::Signal;
 use std::test::Fail;

@@ -4,6 +4,8 @@
 #[cfg(test)]
 mod calls;
 #[cfg(test)]
+mod expected;
+#[cfg(test)]
 mod faults;
 #[cfg(test)]
 mod feedback;
@@ -11,7 +13,5 @@ mod feedback;
 mod limits;
 #[cfg(test)]
 mod saves;
-#[cfg(test)]
-mod table;
 #[cfg(test)]
 mod traces;

@@ -1,5 +1,5 @@
 // The limit of blocks, boxes without blocks, and loaders that load again.
-use crate::table::{fault, is_accepted};
+use crate::expected::{fault, is_accepted};
 use blocks::Refusal;
 use boxes::Loader;
 use loading::LoadError;

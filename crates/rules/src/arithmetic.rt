@@ -47,8 +47,8 @@ pub fn div_d(x1: i32, x2: i32) -> Divided
 
 // The quotient without its fraction, where it is a DINT, and what is left.
 fn whole_quotient(x1: i32, x2: i32) -> Divided
-    requires pos_value { equal x2 (pos 0) ≡ false }
-    requires negsuc_value { (equal x1 least && equal x2 (negsuc 0)) ≡ false }
+    requires divisor { equal x2 (pos 0) ≡ false }
+    requires fits { (equal x1 least && equal x2 (negsuc 0)) ≡ false }
     ensures { result ≡ quotient x1 x2 }
 {
     Divided {
