@@ -16,7 +16,7 @@ import sys
 
 NAME = r"[A-Za-z_][\w']*(?:-[\w']+)+"
 TOKEN = re.compile(r"(?<![\w'-])" + NAME + r"(?![\w'-])")
-MADE = ("Answers.antt", "Invariants.antt")
+MADE = re.compile(r"/proofs/.*/(Answers|Invariants)\.antt$")
 OWN = {c for c in os.listdir("crates") if os.path.isdir(os.path.join("crates", c))}
 DEFINED = re.compile(r"^\s*(?:(?:abbrev|unfoldable)\s+)?(?:pub\s+)?(?:(record|data)\s+)?(" + NAME + r")(?=\s|$)(.*)$")
 # facts that are local to a proof and stood in small letters
@@ -25,6 +25,8 @@ LOCAL_FACTS = {
     "FaultOne.antt": {"three": "Three", "eight": "Eight"},
     "FaultTwo.antt": {"seven": "Seven", "six": "Six", "five": "Five", "shown": "Shown"},
 }
+# the answer of a call that gives a length: no lemma on a length
+VALUES = {"length-or": "length_or"}
 # facts that would fall together with a type or a variant of src/
 NOUNS = {"Output-record": "IsOutputRecord", "Cut-short": "IsCutShort"}
 # spec functions may bear the name of the Rust function whose answer they give, and a fact that of its module
@@ -65,7 +67,7 @@ def own_names(library):
     names, types = set(), set()
     for p in files(".antt"):
         text = code(read(p))
-        made = p.endswith(MADE)
+        made = MADE.search(p)
         if made:
             names |= set(re.findall(r"\blet\s+(" + NAME + r")", text))
             names |= set(re.findall(r"λ\s*(" + NAME + r")\s*\.", text))
@@ -82,8 +84,9 @@ def own_names(library):
 
 
 def spelled(name, types):
-    if name in FACTS or name in NOUNS:
-        return FACTS.get(name) or NOUNS[name]
+    for given in (FACTS, NOUNS, VALUES):
+        if name in given:
+            return given[name]
     parts = [WORDS.get(w, w) for w in name.split("-")]
     if name in types:
         return parts[0] + "".join(w[0].upper() + w[1:] for w in parts[1:])
@@ -123,7 +126,7 @@ def main():
         old = read(p)
         local = LOCAL_FACTS.get(os.path.basename(p), {}) if p.startswith("crates/charts/") else {}
         old = re.sub(r"(?<![\w'-])(" + "|".join(local) + r")(?![\w'-])", lambda m: local[m[0]], old) if local else old
-        new = "\n".join(l if p.endswith(MADE) and re.search(r"\bgoal\." + NAME, l) else turn(l) for l in old.split("\n"))
+        new = "\n".join(l if MADE.search(p) and re.search(r"\bgoal\." + NAME, l) else turn(l) for l in old.split("\n"))
         with open(p, "w", encoding="utf-8") as f:
             f.write(new)
     for p in list(files(".rt")) + list(files(".edit")):

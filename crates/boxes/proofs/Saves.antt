@@ -8,20 +8,20 @@ use Rattle.charts.specs.Calls.{Outcome, settled, perform}
 use Rattle.charts.specs.Charts.{written}
 use Rattle.charts.specs.declared.call.Call.{Call}
 use Rattle.charts.specs.declared.call.Reply.{Reply}
-use Rattle.boxes.specs.Answers.{length-or}
+use Rattle.boxes.specs.Answers.{length_or}
 use Rattle.saving.specs.Saving.{room_for, saved, at_front}
 
 abbrev reply : Result ℕ ℕ → Result Reply ℕ
 reply (Ok n) = Ok (Reply.Bytes n)
 reply (Err n) = Err n
 
-reply_numbered : (r : Result ℕ Refusal) → length-or r ≡ reply (numbered r)
+reply_numbered : (r : Result ℕ Refusal) → length_or r ≡ reply (numbered r)
 reply_numbered (Ok n) = refl
 reply_numbered (Err e) = refl
 
 -- refused or done, by whether the room is shorter
-by_answer : (short : Bool) (n : ℕ) (box : Box) (r : Result ℕ Refusal) → length-or r ≡ reply (cond short (Err 13) (Ok n))
-    → ◌≡◌ {A = Outcome} (length-or r, box) (settled (cond short (Some 13) None) (Reply.Bytes n) box box)
+by_answer : (short : Bool) (n : ℕ) (box : Box) (r : Result ℕ Refusal) → length_or r ≡ reply (cond short (Err 13) (Ok n))
+    → ◌≡◌ {A = Outcome} (length_or r, box) (settled (cond short (Some 13) None) (Reply.Bytes n) box box)
 by_answer true n box r e = ap (λ x. (x, box)) e
 by_answer false n box r e = ap (λ x. (x, box)) e
 
@@ -31,11 +31,11 @@ answer_of true n buffer filled = refl
 answer_of false n buffer filled = refl
 
 pub save_performed : (m : Meaning) (box : Box) (buffer after : List ℕ) (r : Result ℕ Refusal) → ◌≡◌ {A = Result ℕ ℕ × List ℕ} (numbered r, after) (saved box.page buffer)
-    → ◌≡◌ {A = Outcome} (length-or r, box) (perform m box (Call.Save (length buffer)))
+    → ◌≡◌ {A = Outcome} (length_or r, box) (perform m box (Call.Save (length buffer)))
 save_performed m box buffer after r h =
     let chart = written box.page in
     let short = ltb (length buffer) (length chart) in
     by_answer short (length chart) box r (reply_numbered r ∙ ap (λ p. reply p.0) h ∙ ap reply (answer_of short (length chart) buffer (at_front chart buffer)))
 
-pub length-performed : (m : Meaning) (box : Box) (room : ℕ) (r : Result ℕ Refusal) → numbered r ≡ room_for box.page room → ◌≡◌ {A = Outcome} (length-or r, box) (perform m box (Call.Save room))
+pub length-performed : (m : Meaning) (box : Box) (room : ℕ) (r : Result ℕ Refusal) → numbered r ≡ room_for box.page room → ◌≡◌ {A = Outcome} (length_or r, box) (perform m box (Call.Save room))
 length-performed m box room r h = let n = length (written box.page) in by_answer (ltb room n) n box r (reply_numbered r ∙ ap reply h)

@@ -5,14 +5,14 @@ use Rattle.blocks.specs.Refusals.{number_of}
 use Rattle.blocks.specs.declared.refusal.Refusal.{Refusal}
 use Rattle.charts.specs.declared.call.Reply.{Reply}
 
-abbrev pub done-or : Result (Unit {0}) Refusal → Result Reply ℕ
-done-or (Ok u) = Ok Reply.Done
-done-or (Err e) = Err (number_of e)
+abbrev pub done_or : Result (Unit {0}) Refusal → Result Reply ℕ
+done_or (Ok u) = Ok Reply.Done
+done_or (Err e) = Err (number_of e)
 
-abbrev pub signal-or : Result Signal Refusal → Result Reply ℕ
-signal-or (Ok x) = Ok (Reply.Signal x)
-signal-or (Err e) = Err (number_of e)
+abbrev pub signal_or : Result Signal Refusal → Result Reply ℕ
+signal_or (Ok x) = Ok (Reply.Signal x)
+signal_or (Err e) = Err (number_of e)
 
-abbrev pub length-or : Result ℕ Refusal → Result Reply ℕ
-length-or (Ok n) = Ok (Reply.Bytes n)
-length-or (Err e) = Err (number_of e)
+abbrev pub length_or : Result ℕ Refusal → Result Reply ℕ
+length_or (Ok n) = Ok (Reply.Bytes n)
+length_or (Err e) = Err (number_of e)

@@ -2,7 +2,7 @@
 ghost use Rattle.std.specs.Prelude.{◌≡◌};
 ghost use Rattle.blocks.specs.Refusals.{numbered};
 ghost use Rattle.charts.specs.Calls.{perform};
-ghost use Rattle.boxes.specs.Answers.{done-or, signal-or, length-or};
+ghost use Rattle.boxes.specs.Answers.{done_or, signal_or, length_or};
 ghost use Rattle.boxes.specs.States.{box_model};
 
 use crate::gate_box::GateBox;
@@ -35,20 +35,20 @@ impl<L: Library> GateBox<L> {
 }
 
 fn done(answer: Result<(), Refusal>) -> Result<Reply, Refusal>
-    ensures { numbered result ≡ done-or answer }
+    ensures { numbered result ≡ done_or answer }
 {
     answer?;
     Ok(Reply::Done)
 }
 
 fn signal(answer: Result<Signal, Refusal>) -> Result<Reply, Refusal>
-    ensures { numbered result ≡ signal-or answer }
+    ensures { numbered result ≡ signal_or answer }
 {
     Ok(Reply::Signal(answer?))
 }
 
 fn bytes(answer: Result<usize, Refusal>) -> Result<Reply, Refusal>
-    ensures { numbered result ≡ length-or answer }
+    ensures { numbered result ≡ length_or answer }
 {
     Ok(Reply::Bytes(answer?))
 }

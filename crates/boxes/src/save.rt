@@ -5,7 +5,7 @@ ghost use Rattle.charts.specs.declared.call.Call.{Call};
 ghost use Rattle.charts.specs.Calls.{perform};
 ghost use Rattle.loading.specs.Models.{page_model};
 ghost use Rattle.saving.specs.Saving.{saved};
-ghost use Rattle.boxes.specs.Answers.{length-or};
+ghost use Rattle.boxes.specs.Answers.{length_or};
 ghost use Rattle.boxes.specs.LoadsAgain.{LoadsAgain};
 ghost use Rattle.boxes.specs.States.{box_model};
 
@@ -18,7 +18,7 @@ impl<L: Library> GateBox<L> {
     // behind, and answers its length; leaves the buffer where it is shorter than the chart.
     pub fn save(&self, buffer: &mut [u8]) -> Result<usize, Refusal>
         ensures saved { (numbered result, buffer.new) ≡ saved (page_model self.now.page) buffer.old }
-        ensures performed { (length-or result, box_model self.now) ≡ perform (L.Library.meaning self.now.library) (box_model self.now) (Call.Save (length buffer.old)) }
+        ensures performed { (length_or result, box_model self.now) ≡ perform (L.Library.meaning self.now.library) (box_model self.now) (Call.Save (length buffer.old)) }
         ensures loads { LoadsAgain (L.Library.meaning self.now.library) (box_model self.now) }
     {
         save_page(&self.page, buffer)
@@ -26,7 +26,7 @@ impl<L: Library> GateBox<L> {
 
     // What save would answer with so much room: the chart's length, or the refusal.
     pub fn chart_length(&self, room: usize) -> Result<usize, Refusal>
-        ensures { (length-or result, box_model self.now) ≡ perform (L.Library.meaning self.now.library) (box_model self.now) (Call.Save room) }
+        ensures { (length_or result, box_model self.now) ≡ perform (L.Library.meaning self.now.library) (box_model self.now) (Call.Save room) }
     {
         length_within(&self.page, room)
     }

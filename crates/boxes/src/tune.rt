@@ -7,7 +7,7 @@ ghost use Rattle.charts.specs.Calls.{perform, tuned_page, pin_type_at};
 ghost use Rattle.charts.specs.Pages.{kinds_of};
 ghost use Rattle.loading.specs.Models.{page_model, cells_model};
 ghost use Rattle.boxes.specs.States.{box_model};
-ghost use Rattle.boxes.specs.Answers.{done-or};
+ghost use Rattle.boxes.specs.Answers.{done_or};
 
 use crate::gate_box::GateBox;
 use crate::lookup::{kind_at, source_at};
@@ -20,7 +20,7 @@ use signals::{Signal, SignalType};
 impl<L: Library> GateBox<L> {
     // Refuses a missing block or pin, then a wired pin, then a signal of another type or a REAL that is not clean.
     pub fn tune(&mut self, block: u8, pin: u8, signal: Signal) -> Result<(), Refusal>
-        ensures performed { (done-or result, box_model self.new) ≡ perform (L.Library.meaning self.old.library) (box_model self.old) (Call.Tune block pin signal) }
+        ensures performed { (done_or result, box_model self.new) ≡ perform (L.Library.meaning self.old.library) (box_model self.old) (Call.Tune block pin signal) }
         ensures library { self.new.library ≡ self.old.library }
     {
         let source = source_at(&self.page, block, pin);

@@ -112,10 +112,10 @@ module _ (m : Meaning) (law : Lawful m) (page : Page) (f : AllByRecursion (Forme
   lamps_painted [] [] a n = refl
   lamps_painted [] (l ∷ ls) a n = absurd (omega arith)
   lamps_painted (b ∷ bs) [] a n = absurd (omega arith)
-  lamps_painted (b ∷ bs) (l ∷ ls) a n =
-      let s = a.0 in
+  lamps_painted (b ∷ bs) (l ∷ ls) all n =
+      let s = all.0 in
       let lit = ap (λ (o : Option Shape). lit_block (map (shown l) (cell_types o))) s.formed ∙ block_lit l s.form.cells (law.sized b.kind s.form s.formed).some_cells in
-      λ i. lit i ∷ lamps_painted bs ls a.1 (omega arith) i
+      λ i. lit i ∷ lamps_painted bs ls all.1 (omega arith) i
 
   pub lamps_traced : (t : ℕ) → t < length page.blocks → (k : ℕ) → lamps (traced m page t k) ≡ spreads page.blocks k (set (unlit page.blocks) t true)
   lamps_traced t h k =

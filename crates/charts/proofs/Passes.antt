@@ -42,7 +42,7 @@ module _ (shapes : Shapes) (limit : ℕ) where
 
   pass_push : (met : Met) (rs : List Raw) (r : Raw) → AllPass shapes limit met rs → Pass shapes limit (mets met rs) r → AllPass shapes limit met (rs ++ r ∷ [])
   pass_push met [] r a p = (p, tt)
-  pass_push met (x ∷ xs) r a p = (a.0, pass_push (then_met met x.kind x.body) xs r a.1 p)
+  pass_push met (x ∷ xs) r all p = (all.0, pass_push (then_met met x.kind x.body) xs r all.1 p)
 
   mets_push : (met : Met) (rs : List Raw) (r : Raw) → mets met (rs ++ r ∷ []) ≡ then_met (mets met rs) r.kind r.body
   mets_push met [] r = refl

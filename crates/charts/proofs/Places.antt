@@ -24,7 +24,7 @@ nth_some (x ∷ xs) (suc i) h = nth_some xs i (omega arith)
 pub all_nth : {X : Type 0} (P : X → Type 0) (xs : List X) (i : ℕ) (x : X) → AllByRecursion P xs → slice_get xs i ≡ Some x → P x
 all_nth P [] i x a e = none_some e
 all_nth P (y ∷ ys) zero x a e = let same : y ≡ x = cc in subst P same a.0
-all_nth P (y ∷ ys) (suc i) x a e = all_nth P ys i x a.1 e
+all_nth P (y ∷ ys) (suc i) x all e = all_nth P ys i x all.1 e
 
 pub get_or_by_nth : {X : Type 0} (xs : List X) (i : ℕ) (d : X) → get_or xs i d ≡ unwrap_or (slice_get xs i) d
 get_or_by_nth [] i d = refl

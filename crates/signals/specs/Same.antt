@@ -28,9 +28,9 @@ same_real_is (inf s) (fin t n f) q = absurd (true≢false (sym q))
 same_real_is (fin s m e) nan q = absurd (true≢false (sym q))
 same_real_is (fin s m e) (inf t) q = absurd (true≢false (sym q))
 same_real_is (fin s m e) (fin t n f) q =
-    let a = both_true (beq s t) ((m == n) && int_eq e f) q in
-    let b = both_true (m == n) (int_eq e f) a.1 in
-    ap (λ u. fin u m e) ((booleans_Decides s t).0 a.0) ∙ ap₂ (λ v w. fin t v w) ((unsigned_Decides m n).0 b.0) ((signed_Decides e f).0 b.1)
+    let both = both_true (beq s t) ((m == n) && int_eq e f) q in
+    let rest = both_true (m == n) (int_eq e f) both.1 in
+    ap (λ u. fin u m e) ((booleans_Decides s t).0 both.0) ∙ ap₂ (λ v w. fin t v w) ((unsigned_Decides m n).0 rest.0) ((signed_Decides e f).0 rest.1)
 
 pub same_real_Decides : (x y : Float) → Decides (same_real x y) (x ≡ y)
 same_real_Decides x y = (same_real_is x y, λ e. subst (λ z. same_real x z ≡ true) e (same_real_self x))
