@@ -2,30 +2,16 @@
 use Rattle.std.proofs.Common.{◌≡◌, ℕ, zero, suc, Bool, true, false, cond, ◌&&◌, ◌||◌, List, [], ◌∷◌, map, Some, None, Ok, Err, Option, Result, sym, refl, ap, ◌∙◌, arith, true-eqb}
 use Rattle.std.specs.Option.{option_map}
 use Rattle.std.specs.List.{slice_get}
-use Rattle.signals.specs.Signals.{type_of, zero_of, one_of, cleaned}
+use Rattle.signals.specs.Signals.{type_of, zero_of, one_of}
 use Rattle.signals.specs.declared.signal.Signal.{Signal}
 use Rattle.signals.specs.declared.signal.SignalType.{SignalType}
-use Rattle.blocks.specs.Meanings.{Shape, Meaning, Lawful, with_shape, start_of, cell_type_of, rank, same_type, typed, stepped_as, stepped}
-use Rattle.blocks.specs.Layers.{cleaned_meaning, lamp_meaning, lamp, any_lit, cell_types}
+use Rattle.blocks.specs.Meanings.{Shape, Meaning, Lawful, rank, same_type, typed, stepped_as, stepped}
+use Rattle.blocks.specs.Layers.{lamp_meaning, lamp, any_lit}
 
 pub nth_map : {X Y : Type 0} (f : X → Y) (xs : List X) (i : ℕ) → option_map f (slice_get xs i) ≡ slice_get (map f xs) i
 nth_map f [] i = refl
 nth_map f (x ∷ xs) zero = refl
 nth_map f (x ∷ xs) (suc i) = nth_map f xs i
-
-pub cleaned_start : (m : Meaning) (k c : ℕ) (r : Option Signal) → r ≡ start_of m k c → option_map cleaned r ≡ start_of (cleaned_meaning m) k c
-cleaned_start m k c r e = ap (option_map cleaned) e ∙ go (m.shape k)
-  where
-    go : (o : Option Shape) → option_map cleaned (with_shape o (λ s. slice_get (m.start k) c)) ≡ with_shape o (λ s. slice_get (map cleaned (m.start k)) c)
-    go None = refl
-    go (Some s) = nth_map cleaned (m.start k) c
-
-pub lamp_start : (m : Meaning) (k c : ℕ) (r : Option SignalType) → r ≡ cell_type_of m k c → option_map zero_of r ≡ start_of (lamp_meaning m) k c
-lamp_start m k c r e = ap (option_map zero_of) e ∙ go (m.shape k)
-  where
-    go : (o : Option Shape) → option_map zero_of (with_shape o (λ s. slice_get s.cells c)) ≡ with_shape o (λ s. slice_get (map zero_of (cell_types o)) c)
-    go None = refl
-    go (Some s) = nth_map zero_of s.cells c
 
 -- ---- a signal's type, from the test of a step
 

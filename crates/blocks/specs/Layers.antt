@@ -1,5 +1,6 @@
 -- The meanings of the three layers, given those below. Assumes nothing.
-use Rattle.std.specs.Prelude.{◌-◌, Bool, false, cond, ◌||◌, List, [], ◌∷◌, map, Some, None, Option, nat_lt}
+use Rattle.std.specs.Prelude.{◌-◌, Bool, cond, ◌||◌, List, [], map, Some, None, Option, nat_lt}
+use Rattle.std.specs.List.{list_any}
 use Rattle.signals.specs.Signals.{type_of, zero_of, one_of, lit, cleaned}
 use Rattle.signals.specs.declared.signal.Signal.{Signal}
 use Rattle.signals.specs.declared.signal.SignalType.{SignalType}
@@ -22,8 +23,7 @@ cleaned_meaning m = record {
 }
 
 abbrev pub any_lit : List Signal → Bool
-any_lit [] = false
-any_lit (x ∷ xs) = lit x || any_lit xs
+any_lit = list_any lit
 
 -- a cell as a lamp: the one of its type where it is lit, else the zero
 abbrev pub lamp : Bool → Signal → Signal

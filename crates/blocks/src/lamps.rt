@@ -34,7 +34,7 @@ impl<L: Library> Library for Lamps<L> {
     }
 
     fn start(&self, kind: u8, cell: usize) -> Option<Signal> {
-        zero_start(self.below.cell_type(kind, cell))
+        self.cell_type(kind, cell).map(SignalType::zero)
     }
 
     // The library below makes all the tests; its new cells have the types of the old ones.
@@ -43,15 +43,6 @@ impl<L: Library> Library for Lamps<L> {
         self.below.step(kind, pins, cells)?;
         set_all(cells, lit);
         Ok(())
-    }
-}
-
-fn zero_start(cell_type: Option<SignalType>) -> Option<Signal>
-    ensures { result ≡ option_map zero_of cell_type }
-{
-    match cell_type {
-        Some(signal_type) => Some(signal_type.zero()),
-        None => None,
     }
 }
 
@@ -64,12 +55,7 @@ fn is_reached(pins: &[Signal], cells: &[Signal]) -> bool
 fn is_any_lit(signals: &[Signal]) -> bool
     ensures { result ≡ any_lit signals.now }
 {
-    for signal in signals {
-        if signal.is_lit() {
-            return true;
-        }
-    }
-    false
+    signals.iter().any(|signal| signal.is_lit())
 }
 
 // Each cell becomes the one or the zero of its type.

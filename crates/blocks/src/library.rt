@@ -7,6 +7,7 @@ use crate::refusal::Refusal;
 use signals::{Signal, SignalType};
 
 // No call takes the library by `&mut`, so none alters what it means.
+// Kept: a kind is a number, the byte that a chart holds, since any library may number kinds of its own.
 pub trait Library {
     // For each kind a shape or none, the starting cells, and the new cells for all pins and cells.
     ghost meaning: { Self → Meaning };
@@ -15,6 +16,7 @@ pub trait Library {
     ghost lawful: { (s : Self) → Lawful (meaning s) };
 
     // The numbers of pins, cells and outputs of a kind, or none for a kind without a shape.
+    // Kept as a tuple: a rule of the project is that this question answers a tuple of three counts.
     fn shape(&self, kind: u8) -> Option<(usize, usize, usize)>
         ensures { result ≡ counts_of (meaning self.now) kind };
 
@@ -30,6 +32,7 @@ pub trait Library {
     fn start(&self, kind: u8, cell: usize) -> Option<Signal>
         ensures { result ≡ start_of (meaning self.now) kind cell };
 
+    // Kept: pins and cells go as two slices, one read and one written; a struct of the two would be taken apart at once.
     // Replaces the cells by the new ones. Refuses an absent kind, then a wrong count or type of
     // signals, and leaves the cells then; refuses nothing else.
     fn step(&self, kind: u8, pins: &[Signal], cells: &mut [Signal]) -> Result<(), Refusal>

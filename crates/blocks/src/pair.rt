@@ -9,6 +9,7 @@ use signals::{Signal, SignalType};
 // The first kind of the second library.
 const BORDER: u8 = 128;
 
+// Kept: the same choice in each of the five questions, since the two sides are of two types and no value can be either.
 // Kinds 0 to 127 are those of the first library, kinds 128 to 255 those of the second as 0 to 127.
 #[derive(Drop)]
 pub struct Pair<A, B> {

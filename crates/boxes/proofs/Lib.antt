@@ -1,3 +1,2 @@
-pub mod Looks
+pub mod Shows
 pub mod Tunings
-pub mod Saves

@@ -1,5 +1,7 @@
 -- A constant put at a pin of a block in memory is put there by the rules. Assumes nothing.
-use Rattle.std.proofs.Common.{◌≡◌, ℕ, List, set, Some, None, vec_items, sym, ap, ◌∙◌}
+use Rattle.std.proofs.Common.{◌≡◌, ℕ, true, false, ltb, List, length, get_or, set, Some, None, vec_items, sym, refl, ap, ◌∙◌}
+use Rattle.std.proofs.lemmas.Option.{slice_get_read, slice_get_past}
+use Rattle.std.proofs.lemmas.Bool.{ltb-true, ltb-false}
 use lib.Seq.{map-set}
 use Rattle.std.specs.Option.{option_map}
 use Rattle.std.specs.Vec.{with_item}
@@ -12,6 +14,12 @@ use Rattle.charts.proofs.Places.{nth_map, set_held}
 use Rattle.loading.specs.declared.page.Block.{Block}
 use Rattle.loading.specs.declared.page.Page.{Page}
 use Rattle.loading.specs.Models.{block_model, page_model, cells_model}
+
+pub found : {X : Type 0} (xs : List X) (i : ℕ) (x : X) → true ≡ ltb i (length xs) → x ≡ get_or xs i x → slice_get xs i ≡ Some x
+found xs i x within e = slice_get_read xs (length xs) i x refl (ltb-true i (length xs) (sym within)) e
+
+pub lacking : {X : Type 0} (xs : List X) (i : ℕ) → false ≡ ltb i (length xs) → slice_get xs i ≡ None
+lacking xs i past = slice_get_past xs i (ltb-false i (length xs) (sym past))
 
 -- the page with another block at a place
 abbrev pub with_block : Page → ℕ → Block → Page

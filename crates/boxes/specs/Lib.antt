@@ -1,3 +1,4 @@
+pub mod Values
 pub mod States
 pub mod Answers
 pub mod Meant

@@ -1,4 +1,4 @@
--- What a loader and a box stand for. Assumes nothing.
+-- How a loader takes a chart and becomes a box. Assumes nothing.
 use Rattle.std.specs.Prelude.{◌≡◌, ℕ, List, Ok, Err, Result}
 use Rattle.blocks.specs.Meanings.{Meaning}
 use Rattle.charts.specs.Pages.{block_limit}
@@ -7,11 +7,7 @@ use Rattle.charts.specs.Boxes.{Box, made, zeros_from}
 use Rattle.loading.specs.declared.fault.LoadError.{LoadError}
 use Rattle.loading.specs.FaultNumbers.{fault_number}
 use Rattle.loading.specs.Models.{page_model, cells_model}
-use Rattle.boxes.specs.declared.gate_box.GateBox.{GateBox}
 use Rattle.boxes.specs.declared.loader.Loader.{Loader}
-
-abbrev pub box_model : {L : Type 0} → GateBox L → Box
-box_model x = record { page = page_model x.page; cells = cells_model x.page; terminals = x.terminals }
 
 -- the box that a loader makes: its page, its cells, and the input terminals at zero
 abbrev pub box_to_be : {L : Type 0} → Loader L → Box

@@ -3,7 +3,6 @@
 
 pub mod gate_box;
 pub mod loader;
-mod lookup;
 mod making;
 mod perform;
 mod reading;

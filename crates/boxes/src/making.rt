@@ -2,7 +2,7 @@
 ghost use Rattle.std.specs.Prelude.{◌≡◌, []};
 ghost use Rattle.charts.specs.Pages.{no_page};
 ghost use Rattle.loading.specs.Models.{page_model, cells_model};
-ghost use Rattle.boxes.specs.States.{box_model, box_to_be, Reloaded};
+ghost use Rattle.boxes.specs.States.{box_to_be, Reloaded};
 ghost use Rattle.boxes.specs.Meant.{Meant};
 
 use crate::gate_box::GateBox;
@@ -38,7 +38,7 @@ impl<L: Library> Loader<L> {
 
     // Makes the box; it uses the loader up and cannot fail.
     pub fn make(self) -> GateBox<L>
-        ensures made { box_model result ≡ box_to_be self }
+        ensures made { result.box ≡ box_to_be self }
         ensures library { result.library ≡ self.library }
     {
         let Loader {
@@ -60,6 +60,7 @@ impl<L: Library> GateBox<L> {
     // Ends the box and gives back a loader over its library, with no page.
     pub fn close(self) -> Loader<L>
         ensures page { page_model result.page ≡ no_page }
+        ensures cells { cells_model result.page ≡ [] }
         ensures library { result.library ≡ self.library }
     {
         let GateBox {

@@ -1,52 +1,39 @@
-// Why sample and tune refuse, or none.
+// Why sample and tune refuse.
 ghost use Rattle.std.specs.Prelude.{◌≡◌};
-ghost use Rattle.std.specs.Option.{option_map};
-ghost use Rattle.blocks.specs.Refusals.{number_of};
-ghost use Rattle.charts.specs.Calls.{refusal_of_signal, sample_refusal, refusal_of_type, tune_refusal};
+ghost use Rattle.charts.specs.Calls.{refusal_of_signal, sample_refusal, tune_refusal};
+ghost use Rattle.boxes.specs.Answers.{refusal_in};
 
 use blocks::Refusal;
 use charts::Source;
 use signals::{Signal, SignalType};
 
-pub(crate) fn sample_refusal(terminal_type: Option<SignalType>, signal: Signal) -> Option<Refusal>
-    ensures { option_map number_of result ≡ sample_refusal terminal_type signal }
+pub(crate) fn check_sample(terminal_type: Option<SignalType>, signal: Signal) -> Result<(), Refusal>
+    ensures { refusal_in result ≡ sample_refusal terminal_type signal }
 {
-    match terminal_type {
-        Some(signal_type) => refusal_of_signal(signal_type, signal),
-        None => Some(Refusal::Missing),
-    }
+    check_signal(terminal_type.ok_or(Refusal::Missing)?, signal)
 }
 
-pub(crate) fn tune_refusal(
+pub(crate) fn check_tune(
     source: Option<Source>,
     pin_type: Option<SignalType>,
     signal: Signal,
-) -> Option<Refusal>
-    ensures { option_map number_of result ≡ tune_refusal source pin_type signal }
+) -> Result<(), Refusal>
+    ensures { refusal_in result ≡ tune_refusal source pin_type signal }
 {
     match source {
-        Some(Source::Constant(_)) => refusal_of_type(pin_type, signal),
-        Some(_) => Some(Refusal::Wired),
-        None => Some(Refusal::Missing),
-    }
-}
-
-fn refusal_of_type(signal_type: Option<SignalType>, signal: Signal) -> Option<Refusal>
-    ensures { option_map number_of result ≡ refusal_of_type signal_type signal }
-{
-    match signal_type {
-        Some(signal_type) => refusal_of_signal(signal_type, signal),
-        None => Some(Refusal::WrongSignal),
+        Some(Source::Constant(_)) => check_signal(pin_type.ok_or(Refusal::WrongSignal)?, signal),
+        Some(_) => Err(Refusal::Wired),
+        None => Err(Refusal::Missing),
     }
 }
 
 // A signal of the type, and clean.
-fn refusal_of_signal(signal_type: SignalType, signal: Signal) -> Option<Refusal>
-    ensures { option_map number_of result ≡ refusal_of_signal signal_type signal }
+fn check_signal(signal_type: SignalType, signal: Signal) -> Result<(), Refusal>
+    ensures { refusal_in result ≡ refusal_of_signal signal_type signal }
 {
-    if (signal_type == signal.signal_type()) & signal.is_clean() {
-        None
+    if signal_type == signal.signal_type() && signal.is_clean() {
+        Ok(())
     } else {
-        Some(Refusal::WrongSignal)
+        Err(Refusal::WrongSignal)
     }
 }

@@ -3,11 +3,9 @@ ghost use Rattle.std.specs.Prelude.{◌≡◌, length};
 ghost use Rattle.blocks.specs.Refusals.{numbered};
 ghost use Rattle.charts.specs.declared.call.Call.{Call};
 ghost use Rattle.charts.specs.Calls.{perform};
-ghost use Rattle.loading.specs.Models.{page_model};
 ghost use Rattle.saving.specs.Saving.{saved};
 ghost use Rattle.boxes.specs.Answers.{length_or};
 ghost use Rattle.boxes.specs.LoadsAgain.{LoadsAgain};
-ghost use Rattle.boxes.specs.States.{box_model};
 
 use crate::gate_box::GateBox;
 use blocks::{Library, Refusal};
@@ -17,16 +15,16 @@ impl<L: Library> GateBox<L> {
     // Writes the chart with its present constants at the front of a buffer, spares the bytes
     // behind, and answers its length; leaves the buffer where it is shorter than the chart.
     pub fn save(&self, buffer: &mut [u8]) -> Result<usize, Refusal>
-        ensures saved { (numbered result, buffer.new) ≡ saved (page_model self.now.page) buffer.old }
-        ensures performed { (length_or result, box_model self.now) ≡ perform (L.Library.meaning self.now.library) (box_model self.now) (Call.Save (length buffer.old)) }
-        ensures loads { LoadsAgain (L.Library.meaning self.now.library) (box_model self.now) }
+        ensures saved { (numbered result, buffer.new) ≡ saved self.now.box.page buffer.old }
+        ensures performed { (length_or result, self.now.box) ≡ perform (L.Library.meaning self.now.library) self.now.box (Call.Save (length buffer.old)) }
+        ensures loads { LoadsAgain (L.Library.meaning self.now.library) self.now.box }
     {
         save_page(&self.page, buffer)
     }
 
     // What save would answer with so much room: the chart's length, or the refusal.
     pub fn chart_length(&self, room: usize) -> Result<usize, Refusal>
-        ensures { (length_or result, box_model self.now) ≡ perform (L.Library.meaning self.now.library) (box_model self.now) (Call.Save room) }
+        ensures { (length_or result, self.now.box) ≡ perform (L.Library.meaning self.now.library) self.now.box (Call.Save room) }
     {
         length_within(&self.page, room)
     }

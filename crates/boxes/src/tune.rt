@@ -3,15 +3,13 @@ ghost use Rattle.std.specs.Prelude.{◌≡◌, slice_set};
 ghost use Rattle.std.specs.List.{slice_get};
 ghost use Rattle.charts.specs.declared.call.Call.{Call};
 ghost use Rattle.charts.specs.declared.page.Source.{Source};
-ghost use Rattle.charts.specs.Calls.{perform, tuned_page, pin_type_at};
+ghost use Rattle.charts.specs.Calls.{tuned_page, pin_type_at};
 ghost use Rattle.charts.specs.Pages.{kinds_of};
 ghost use Rattle.loading.specs.Models.{page_model, cells_model};
-ghost use Rattle.boxes.specs.States.{box_model};
-ghost use Rattle.boxes.specs.Answers.{done_or};
+ghost use Rattle.boxes.specs.Answers.{done_or, IsPerformed};
 
 use crate::gate_box::GateBox;
-use crate::lookup::{kind_at, source_at};
-use crate::refusals::tune_refusal;
+use crate::refusals::check_tune;
 use blocks::{Library, Refusal};
 use charts::Source;
 use loading::{Block, Page};
@@ -20,35 +18,21 @@ use signals::{Signal, SignalType};
 impl<L: Library> GateBox<L> {
     // Refuses a missing block or pin, then a wired pin, then a signal of another type or a REAL that is not clean.
     pub fn tune(&mut self, block: u8, pin: u8, signal: Signal) -> Result<(), Refusal>
-        ensures performed { (done_or result, box_model self.new) ≡ perform (L.Library.meaning self.old.library) (box_model self.old) (Call.Tune block pin signal) }
-        ensures library { self.new.library ≡ self.old.library }
+        ensures { IsPerformed L.Library.meaning self.old (Call.Tune block pin signal) (done_or result) self.new }
     {
-        let source = source_at(&self.page, block, pin);
+        let source = self.page.source(block, pin);
         let pin_type = self.pin_type(block, pin);
-        match tune_refusal(source, pin_type, signal) {
-            Some(refusal) => Err(refusal),
-            None => {
-                put_constant(&mut self.page, block, pin, signal);
-                Ok(())
-            }
-        }
+        check_tune(source, pin_type, signal)?;
+        put_constant(&mut self.page, block, pin, signal);
+        Ok(())
     }
 
     // The type of a pin, none where the block or the pin is missing.
     pub fn pin_type(&self, block: u8, pin: u8) -> Option<SignalType>
-        ensures { result ≡ pin_type_at (L.Library.meaning self.now.library) (slice_get (kinds_of (box_model self.now).page) block) pin }
+        ensures { result ≡ pin_type_at (L.Library.meaning self.now.library) (slice_get (kinds_of self.now.box.page) block) pin }
     {
-        pin_type_at(&self.library, kind_at(&self.page, block), pin)
-    }
-}
-
-// The type of a pin of a block by the block's kind, none where the block or the pin is missing.
-fn pin_type_at<L: Library>(library: &L, kind: Option<u8>, pin: u8) -> Option<SignalType>
-    ensures { result ≡ pin_type_at (L.Library.meaning library.now) kind pin }
-{
-    match kind {
-        Some(kind) => library.pin_type(kind, pin as usize),
-        None => None,
+        let kind = self.page.kind(block)?;
+        self.library.pin_type(kind, usize::from(pin))
     }
 }
 
@@ -67,7 +51,7 @@ fn put_source(block: &mut Block, pin: u8, source: Source)
     ensures pins { block.new.pins.items ≡ slice_set block.old.pins.items pin source }
     ensures cells { block.new.cells ≡ block.old.cells }
 {
-    if (pin as usize) < block.pins.len() {
-        block.pins[pin as usize] = source;
+    if let Some(place) = block.pins.get_mut(pin as usize) {
+        *place = source;
     }
 }

@@ -1,10 +1,11 @@
 // Runs a box over the shipped library: the chart from `chart.bin`, the calls from standard input, a line for each on standard output.
 #![tactic(auto)]
 
-ghost use Rattle.std.specs.Prelude.{◌≤◌, length, IfOk};
+ghost use Rattle.std.specs.Prelude.{◌≤◌, IfOk, vec_len};
+ghost use Rattle.console.specs.Inputs.{input_limit};
 
 use anyhow::anyhow;
-use console::input::{INPUT_LIMIT, fill};
+use console::input::{INPUT_LIMIT, read_limited};
 use console::session::transcript;
 use std::fs::File;
 use std::io;
@@ -14,28 +15,16 @@ fn main(rt: HostRuntime) -> anyhow::Result<()> {
 }
 
 fn run(rt: &HostRuntime) -> anyhow::Result<()> {
-    let mut chart = [0u8; INPUT_LIMIT];
-    let length = match read_chart(rt, &mut chart) {
-        Ok(length) => length,
-        Err(error) => return Err(anyhow!(format!(in rt.alloc();
-            "chart.bin cannot be read: {error}"
-        )?)),
-    };
-    let mut calls = [0u8; INPUT_LIMIT];
-    let count = fill(&mut rt.stdin(), &mut calls)?;
-    let text = transcript(
-        rt.alloc(),
-        shipped::library(),
-        &chart[0..length],
-        &calls[0..count],
-    )?;
+    let chart = read_chart(rt).map_err(|error| anyhow!("chart.bin cannot be read: {error}"))?;
+    let calls = read_limited(rt.alloc(), rt.stdin(), INPUT_LIMIT)?;
+    let text = transcript(rt.alloc(), shipped::library(), &chart, &calls)?;
     print!(rt; "{text}")?;
     Ok(())
 }
 
-fn read_chart(rt: &HostRuntime, chart: &mut [u8]) -> io::Result<usize>
-    ensures { IfOk result (λ n. n ≤ length chart.old) }
+fn read_chart(rt: &HostRuntime) -> io::Result<Vec<u8>>
+    ensures { IfOk result (λ chart. vec_len chart ≤ input_limit) }
 {
-    let mut file = File::open(rt, "chart.bin")?;
-    fill(&mut file, chart)
+    let file = File::open(rt, "chart.bin")?;
+    read_limited(rt.alloc(), file, INPUT_LIMIT)
 }

@@ -20,7 +20,7 @@ pub enum Call {
 }
 
 // What a call answers where it is not refused.
-#[derive(Clone, Copy, Debug)]
+#[derive(Clone, Copy, Debug, PartialEq)]
 pub enum Reply {
     // It is done, and there is nothing to say.
     Done,

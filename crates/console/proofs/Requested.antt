@@ -2,6 +2,7 @@
 use Rattle.std.proofs.Common.{◌≡◌, ℕ, ◌≤◌, Bool, true, false, cond, eqb, ltb, List, [], ◌∷◌, ◌++◌, length, get_or, drop, Some, None, Option, sym, refl, ap, ◌∙◌, subst, arith, true-eqb}
 use Rattle.std.proofs.lemmas.Bool.{le-ltb, ltb-false}
 use Rattle.charts.proofs.Places.{none_some}
+use Rattle.console.specs.declared.read.Ending.{Ending}
 use Rattle.console.specs.declared.request.Request.{Request}
 use Rattle.console.specs.Requests.{body_length, code_at, whole, request_of, Reads, all, stop, next}
 use Rattle.console.specs.Promises.{request_bytes, WholeCode, first_request}
@@ -106,19 +107,19 @@ module _ (letter : ℕ) (body : List ℕ) (q : Request) where
 
 -- ---- there is one way to read
 
-pub read_once : (bytes : List ℕ) (qs rs : List Request) (s t : Bool) → Reads bytes qs s → Reads bytes rs t → (qs ≡ rs) × (s ≡ t)
-read_once [] [] [] false false all all = (refl, refl)
-read_once [] [] [] false true x y = elim y [ ]
-read_once [] [] [] true t x y = elim x [ ]
+pub read_once : (bytes : List ℕ) (qs rs : List Request) (s t : Ending) → Reads bytes qs s → Reads bytes rs t → (qs ≡ rs) × (s ≡ t)
+read_once [] [] [] Ending.Whole Ending.Whole all all = (refl, refl)
+read_once [] [] [] Ending.Whole Ending.Stopped x y = elim y [ ]
+read_once [] [] [] Ending.Stopped t x y = elim x [ ]
 read_once [] [] (r ∷ rs) s t x y = elim y [ ]
 read_once [] (q ∷ qs) rs s t x y = elim x [ ]
-read_once (letter ∷ body) [] [] false t x y = elim x [ ]
-read_once (letter ∷ body) [] [] true false x y = elim y [ ]
-read_once (letter ∷ body) [] (r ∷ rs) false t x y = elim x [ ]
-read_once (letter ∷ body) (q ∷ qs) [] s false x y = elim y [ ]
-read_once (letter ∷ body) [] [] true true (stop e) (stop f) = (refl, refl)
-read_once (letter ∷ body) [] (r ∷ rs) true t (stop e) (next f more) = none_some (sym e ∙ f)
-read_once (letter ∷ body) (q ∷ qs) [] s true (next e more) (stop f) = none_some (sym f ∙ e)
+read_once (letter ∷ body) [] [] Ending.Whole t x y = elim x [ ]
+read_once (letter ∷ body) [] [] Ending.Stopped Ending.Whole x y = elim y [ ]
+read_once (letter ∷ body) [] (r ∷ rs) Ending.Whole t x y = elim x [ ]
+read_once (letter ∷ body) (q ∷ qs) [] s Ending.Whole x y = elim y [ ]
+read_once (letter ∷ body) [] [] Ending.Stopped Ending.Stopped (stop e) (stop f) = (refl, refl)
+read_once (letter ∷ body) [] (r ∷ rs) Ending.Stopped t (stop e) (next f more) = none_some (sym e ∙ f)
+read_once (letter ∷ body) (q ∷ qs) [] s Ending.Stopped (next e more) (stop f) = none_some (sym f ∙ e)
 read_once (letter ∷ body) (q ∷ qs) (r ∷ rs) s t (next e more) (next f others) =
     let same : q ≡ r = some_same (sym e ∙ f) in
     let again : Reads (drop (body_length q) body) rs t = subst (λ x. Reads (drop (body_length x) body) rs t) (sym same) others in

@@ -1,3 +1,4 @@
+pub mod Inputs
 pub mod Requests
 pub mod Lines
 pub mod Asked

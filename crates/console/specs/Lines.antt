@@ -1,8 +1,8 @@
 -- The lines that a run prints. Assumes nothing.
 use Rattle.std.specs.Prelude.{ℕ, ◌+◌, ◌/◌, ◌%◌, cond, List, [], ◌∷◌, ◌++◌, codes, decimal, nat_lt, slice_index}
 use Rattle.signals.specs.Coding.{encoded}
+use Rattle.signals.specs.Names.{type_name}
 use Rattle.signals.specs.Signals.{type_of}
-use Rattle.signals.specs.declared.signal.SignalType.{SignalType}
 use Rattle.console.specs.declared.line.Line.{Line}
 
 -- a digit of 0 to 9 and A to F
@@ -15,12 +15,6 @@ hex_byte b = hex_digit (b / 16) ++ hex_digit (b % 16)
 -- the first four bytes
 abbrev pub hex_code : List ℕ → List ℕ
 hex_code bytes = hex_byte (slice_index bytes 0) ++ (hex_byte (slice_index bytes 1) ++ (hex_byte (slice_index bytes 2) ++ hex_byte (slice_index bytes 3)))
-
-abbrev pub type_name : SignalType → List ℕ
-type_name SignalType.Bool = codes "BOOL"
-type_name SignalType.Int = codes "INT"
-type_name SignalType.Dint = codes "DINT"
-type_name SignalType.Real = codes "REAL"
 
 -- a line, without its line feed
 abbrev pub line_text : Line → List ℕ

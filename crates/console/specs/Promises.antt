@@ -1,5 +1,5 @@
 -- What is promised of requests and of their answers, in the subject's words. Assumes nothing.
-use Rattle.std.specs.Prelude.{◌≡◌, ℕ, Bool, true, false, List, [], ◌∷◌, ◌++◌, length, drop, Some, None, Option}
+use Rattle.std.specs.Prelude.{◌≡◌, ℕ, true, false, List, [], ◌∷◌, ◌++◌, length, drop, Some, None, Option}
 use Rattle.signals.specs.Coding.{decoded}
 use Rattle.signals.specs.Terminals.{terminal_type}
 use Rattle.signals.specs.declared.signal.Signal.{Signal}
@@ -11,6 +11,7 @@ use Rattle.charts.specs.Pages.{source}
 use Rattle.charts.specs.Boxes.{Box}
 use Rattle.charts.specs.Calls.{is_constant, perform}
 use Rattle.console.specs.declared.line.Line.{Line}
+use Rattle.console.specs.declared.read.Ending.{Ending}
 use Rattle.console.specs.declared.request.Request.{Request}
 use Rattle.console.specs.Requests.{body_length, request_of, Reads}
 use Rattle.console.specs.Asked.{pin_type, line_of, asked}
@@ -44,7 +45,7 @@ first_request (letter ∷ body) = request_of letter body
 pub record ReadingLaw : Type 0 where
   pub written_read : (q : Request) (rest : List ℕ) → WholeCode q → first_request (request_bytes q ++ rest) ≡ Some q
   pub read_written : (letter : ℕ) (body : List ℕ) (q : Request) → request_of letter body ≡ Some q → letter ∷ body ≡ request_bytes q ++ drop (body_length q) body
-  pub read_once : (bytes : List ℕ) (qs rs : List Request) (s t : Bool) → Reads bytes qs s → Reads bytes rs t → (qs ≡ rs) × (s ≡ t)
+  pub read_once : (bytes : List ℕ) (qs rs : List Request) (s t : Ending) → Reads bytes qs s → Reads bytes rs t → (qs ≡ rs) × (s ≡ t)
 
 -- ---- answers
 

@@ -1,5 +1,6 @@
 -- Requests: calls on a box in bytes. Assumes nothing.
-use Rattle.std.specs.Prelude.{◌≡◌, ℕ, Bool, true, false, cond, List, [], ◌∷◌, length, drop, Some, None, Option, ◌==◌, nat_lt, slice_index}
+use Rattle.std.specs.Prelude.{◌≡◌, ℕ, cond, List, [], ◌∷◌, length, drop, Some, None, Option, ◌==◌, nat_lt, slice_index}
+use Rattle.console.specs.declared.read.Ending.{Ending}
 use Rattle.console.specs.declared.request.Request.{Request}
 
 -- how many bytes stand behind the letter
@@ -30,9 +31,9 @@ request_of letter body =
     (cond (letter == 0x4F) (whole 1 body (Request.Show (slice_index body 0)))
     None)))))
 
--- The requests that bytes hold, one behind the other, and whether an unknown or cut one stands behind them.
-pub data Reads : List ℕ → List Request → Bool → Type 0 where
-  all : Reads [] [] false
-  stop : {letter : ℕ} {body : List ℕ} → request_of letter body ≡ None → Reads (letter ∷ body) [] true
-  next : {letter : ℕ} {body : List ℕ} {q : Request} {qs : List Request} {stopped : Bool}
-      → request_of letter body ≡ Some q → Reads (drop (body_length q) body) qs stopped → Reads (letter ∷ body) (q ∷ qs) stopped
+-- The requests that bytes hold, one behind the other, and whether an unknown or cut one ends them.
+pub data Reads : List ℕ → List Request → Ending → Type 0 where
+  all : Reads [] [] Ending.Whole
+  stop : {letter : ℕ} {body : List ℕ} → request_of letter body ≡ None → Reads (letter ∷ body) [] Ending.Stopped
+  next : {letter : ℕ} {body : List ℕ} {q : Request} {qs : List Request} {ending : Ending}
+      → request_of letter body ≡ Some q → Reads (drop (body_length q) body) qs ending → Reads (letter ∷ body) (q ∷ qs) ending

@@ -1,5 +1,5 @@
 -- A whole session: what is printed for a chart and requests in bytes, and what is promised of it. Assumes nothing.
-use Rattle.std.specs.Prelude.{◌≡◌, ℕ, Bool, cond, ◌⊎◌, List, [], ◌∷◌, ◌++◌, Ok, Err, string_bytes}
+use Rattle.std.specs.Prelude.{◌≡◌, ℕ, ◌⊎◌, List, [], ◌∷◌, ◌++◌, Ok, Err, string_bytes}
 use Rattle.blocks.specs.Meanings.{Meaning, Lawful}
 use Rattle.charts.specs.declared.call.Call.{Call}
 use Rattle.charts.specs.Pages.{Page, block_limit}
@@ -7,9 +7,9 @@ use Rattle.charts.specs.Loading.{load}
 use Rattle.charts.specs.Boxes.{Box, made}
 use Rattle.charts.specs.Calls.{run}
 use Rattle.charts.specs.Laws.{SameShapes, Independent}
-use Rattle.boxes.specs.States.{box_model}
 use Rattle.boxes.specs.declared.gate_box.GateBox.{GateBox}
 use Rattle.console.specs.declared.line.Line.{Line}
+use Rattle.console.specs.declared.read.Ending.{Ending}
 use Rattle.console.specs.declared.request.Request.{Request}
 use Rattle.console.specs.declared.session.Session.{Session}
 use Rattle.console.specs.Lines.{line_text}
@@ -33,18 +33,19 @@ lines_of m box (q ∷ qs) = printed_line (asked m box q).0 ++ lines_of m (asked 
 -- the box is the rules' run of the requests' calls, and the text has a line for each
 abbrev pub Held : {L : Type 0} → Meaning → GateBox L → List Request → Session L → Type 0
 Held m x qs r =
-    (box_model r.gate_box ≡ run m (box_model x) (calls_of m (box_model x) qs)) × (string_bytes r.text ≡ lines_of m (box_model x) qs) × (r.gate_box.library ≡ x.library)
+    (r.gate_box.box ≡ run m x.box (calls_of m x.box qs)) × (string_bytes r.text ≡ lines_of m x.box qs) × (r.gate_box.library ≡ x.library)
 
 -- `stop` where an unknown or cut request stands behind the others
-abbrev pub ending : Bool → List ℕ
-ending stopped = cond stopped (printed_line Line.Stop) []
+abbrev pub ending_text : Ending → List ℕ
+ending_text Ending.Whole = []
+ending_text Ending.Stopped = printed_line Line.Stop
 
 -- A line for each request that the bytes hold, on a box, then the ending.
 pub record Talked (m : Meaning) (box : Box) (bytes text : List ℕ) : Type 0 where
   pub requests : List Request
-  pub stopped : Bool
-  pub read : Reads bytes requests stopped
-  pub printed : text ≡ lines_of m box requests ++ ending stopped
+  pub ending : Ending
+  pub read : Reads bytes requests ending
+  pub printed : text ≡ lines_of m box requests ++ ending_text ending
 
 -- a chart that is accepted: what is printed for the box made of the chart
 pub record RanSession (m : Meaning) (chart bytes text : List ℕ) : Type 0 where

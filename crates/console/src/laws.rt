@@ -2,8 +2,6 @@
 ghost use Rattle.console.specs.Promises.{ConsoleLaws};
 
 // Bytes are read as requests in one way, and a coded signal is refused with 10, 14, 7 and 11 in this order.
-pub fn console_laws_hold() -> bool
+pub fn console_laws_hold()
     ensures { ConsoleLaws }
-{
-    true
-}
+{}

@@ -9,6 +9,8 @@ pub mod meaning;
 pub mod read;
 pub mod request;
 pub mod session;
+#[cfg(test)]
+mod tests;
 
 pub use line::Line;
 pub use request::Request;

@@ -1,12 +1,14 @@
 // The lines that a run prints.
-ghost use Rattle.std.specs.Prelude.{◌≡◌, Some};
-ghost use Rattle.console.specs.Lines.{type_name, line_text};
+ghost use Rattle.std.specs.Prelude.{Some};
+ghost use Rattle.console.specs.Lines.{line_text};
 
 use crate::hexadecimal::HexCode;
+use signals::Signal;
 use signals::coding::encode;
-use signals::{Signal, SignalType};
 use std::fmt;
 
+// Kept with numbers: a line is what is printed, and 7 is the number of no refusal of a box. Kept beside the Result of a call: what a
+// save answers is never printed, and two of the cases answer no call.
 #[derive(Clone, Copy)]
 pub enum Line {
     // A call was done, and there is nothing to say.
@@ -28,24 +30,13 @@ impl fmt::Display for Line {
         match *self {
             Line::Done => write!(f, "ok"),
             Line::Signal(signal) => {
-                let name = type_name(signal.signal_type());
+                let signal_type = signal.signal_type();
                 let code = HexCode(encode(signal));
-                write!(f, "{name} {code}")
+                write!(f, "{signal_type} {code}")
             }
             Line::Refused(number) => write!(f, "refused {number}"),
             Line::Stop => write!(f, "stop"),
             Line::Chart { number, place } => write!(f, "chart {number} {place}"),
         }
-    }
-}
-
-fn type_name(signal_type: SignalType) -> &'static str
-    ensures { result.now ≡ type_name signal_type }
-{
-    match signal_type {
-        SignalType::Bool => "BOOL",
-        SignalType::Int => "INT",
-        SignalType::Dint => "DINT",
-        SignalType::Real => "REAL",
     }
 }

@@ -1,7 +1,6 @@
 // What a request asks of a box.
 ghost use Rattle.std.specs.Prelude.{◌≡◌};
 ghost use Rattle.blocks.specs.Refusals.{numbered};
-ghost use Rattle.boxes.specs.States.{box_model};
 ghost use Rattle.console.specs.Asked.{signal_of, outside as is_outside, call_of, code_outside, line_of, asked};
 
 use crate::line::Line;
@@ -15,7 +14,7 @@ use signals::{Signal, SignalType};
 
 // Makes the call of a request and gives the line that says what it answered.
 pub fn ask<L: Library>(gate_box: &mut GateBox<L>, request: Request) -> Line
-    ensures asked { (result, box_model gate_box.new) ≡ asked (L.Library.meaning gate_box.old.library) (box_model gate_box.old) request }
+    ensures asked { (result, gate_box.new.box) ≡ asked (L.Library.meaning gate_box.old.library) gate_box.old.box request }
     ensures library { gate_box.new.library ≡ gate_box.old.library }
 {
     let outside = is_code_outside(gate_box, request);
@@ -25,7 +24,7 @@ pub fn ask<L: Library>(gate_box: &mut GateBox<L>, request: Request) -> Line
 
 // The call of a request. A code outside its type brings a signal of another type, which the box refuses.
 fn call_of<L: Library>(gate_box: &GateBox<L>, request: Request) -> Call
-    ensures { result ≡ call_of (L.Library.meaning gate_box.now.library) (box_model gate_box.now) request }
+    ensures { result ≡ call_of (L.Library.meaning gate_box.now.library) gate_box.now.box request }
 {
     match request {
         Request::Sample { terminal, code } => Call::Sample {
@@ -45,8 +44,9 @@ fn call_of<L: Library>(gate_box: &GateBox<L>, request: Request) -> Call
 }
 
 // Whether a request brings a code outside the type of its terminal or pin.
+// Kept beside the call that it makes: the box is asked in any case, since only it knows whether 10 or 14 comes first.
 fn is_code_outside<L: Library>(gate_box: &GateBox<L>, request: Request) -> bool
-    ensures { result ≡ code_outside (L.Library.meaning gate_box.now.library) (box_model gate_box.now) request }
+    ensures { result ≡ code_outside (L.Library.meaning gate_box.now.library) gate_box.now.box request }
 {
     match request {
         Request::Sample { terminal, code } => is_outside(type_of_terminal(terminal), code),
@@ -59,19 +59,15 @@ fn is_code_outside<L: Library>(gate_box: &GateBox<L>, request: Request) -> bool
 fn signal_of(signal_type: Option<SignalType>, code: [u8; 4]) -> Signal
     ensures { result ≡ signal_of signal_type code }
 {
-    match signal_type {
-        Some(signal_type) => decode(signal_type, code).unwrap_or(Signal::Real(0.0)),
-        None => Signal::Real(0.0),
-    }
+    signal_type
+        .and_then(|signal_type| decode(signal_type, code))
+        .unwrap_or(Signal::Real(0.0))
 }
 
 fn is_outside(signal_type: Option<SignalType>, code: [u8; 4]) -> bool
     ensures { result ≡ is_outside signal_type code }
 {
-    match signal_type {
-        Some(signal_type) => decode(signal_type, code).is_none(),
-        None => false,
-    }
+    signal_type.is_some_and(|signal_type| decode(signal_type, code).is_none())
 }
 
 // The line of an answer: 7 stands in the place of 11 where the code was outside its type.

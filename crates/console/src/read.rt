@@ -5,15 +5,24 @@ ghost use Rattle.console.specs.Requests.{Reads};
 use crate::request::{Request, request_of};
 use std::alloc::{AllocError, Global};
 
-// Requests, and whether an unknown or cut one stands behind them.
+// How bytes end. Kept beside the requests, which stand either way.
+#[derive(Clone, Copy, Debug, PartialEq, Eq)]
+pub enum Ending {
+    // With a request's last byte.
+    Whole,
+    // With an unknown or cut request.
+    Stopped,
+}
+
+// The requests that bytes hold, and what stands behind them.
 #[derive(Drop)]
 pub struct Requests {
     pub items: Vec<Request>,
-    pub stopped: bool,
+    pub ending: Ending,
 }
 
 pub fn read_requests(heap: Global, bytes: &[u8]) -> Result<Requests, AllocError>
-    ensures { IfOk result (λ read. Reads bytes.now read.items.items read.stopped) }
+    ensures { IfOk result (λ read. Reads bytes.now read.items.items read.ending) }
 {
     let mut items = Vec::new(heap);
     let mut rest = bytes;
@@ -21,7 +30,7 @@ pub fn read_requests(heap: Global, bytes: &[u8]) -> Result<Requests, AllocError>
         let Some(request) = request_of(*letter, body) else {
             return Ok(Requests {
                 items,
-                stopped: true,
+                ending: Ending::Stopped,
             });
         };
         items.push(request)?;
@@ -29,6 +38,6 @@ pub fn read_requests(heap: Global, bytes: &[u8]) -> Result<Requests, AllocError>
     }
     Ok(Requests {
         items,
-        stopped: false,
+        ending: Ending::Whole,
     })
 }

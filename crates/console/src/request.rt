@@ -3,6 +3,7 @@ ghost use Rattle.std.specs.Prelude.{◌≡◌, ◌≤◌, length, IfSome};
 ghost use Rattle.console.specs.Requests.{request_of, body_length};
 
 // A call whose signal is still four bytes.
+// Kept beside Call: no bytes ask for a save, so a Call over four bytes would have a case that none gives.
 #[derive(Clone, Copy, Debug)]
 pub enum Request {
     Sample { terminal: u8, code: [u8; 4] },

@@ -1,12 +1,11 @@
 // A whole session: from a chart and requests in bytes to the text that is printed.
 ghost use Rattle.std.specs.Prelude.{◌≡◌, [], ◌∷◌, ◌++◌, IfOk, string_bytes, OnOk};
 ghost use Rattle.console.specs.Lines.{line_text};
-ghost use Rattle.boxes.specs.States.{box_model};
-ghost use Rattle.console.specs.Sessions.{Held, Talked, Transcribed, ending, printed_line};
+ghost use Rattle.console.specs.Sessions.{Held, Talked, Transcribed, ending_text, printed_line};
 
 use crate::line::Line;
 use crate::meaning::ask;
-use crate::read::read_requests;
+use crate::read::{Ending, read_requests};
 use crate::request::Request;
 use blocks::Library;
 use boxes::GateBox;
@@ -40,10 +39,7 @@ pub fn hold<L: Library + Drop>(
 fn append(text: &mut String, line: Line) -> Result<(), AllocError>
     ensures { OnOk result (string_bytes text.new ≡ string_bytes text.old ++ (line_text line ++ 10 ∷ [])) }
 {
-    match writeln!(text, "{line}") {
-        Ok(()) => Ok(()),
-        Err(_) => Err(AllocError),
-    }
+    writeln!(text, "{line}")
 }
 
 // What is printed for a chart and requests in bytes: a line for each request, `stop` before one that is
@@ -72,22 +68,22 @@ fn talk<L: Library + Drop>(
     gate_box: GateBox<L>,
     bytes: &[u8],
 ) -> Result<String, AllocError>
-    ensures { IfOk result (λ text. Talked (L.Library.meaning gate_box.library) (box_model gate_box) bytes.now (string_bytes text)) }
+    ensures { IfOk result (λ text. Talked (L.Library.meaning gate_box.library) gate_box.box bytes.now (string_bytes text)) }
 {
     let requests = read_requests(heap, bytes)?;
     let Session { gate_box, mut text } = hold(heap, gate_box, &requests.items)?;
     drop(gate_box);
-    end(&mut text, requests.stopped)?;
+    end(&mut text, requests.ending)?;
     Ok(text)
 }
 
-fn end(text: &mut String, stopped: bool) -> Result<(), AllocError>
-    ensures { OnOk result (string_bytes text.new ≡ string_bytes text.old ++ ending stopped) }
+fn end(text: &mut String, ending: Ending) -> Result<(), AllocError>
+    ensures { OnOk result (string_bytes text.new ≡ string_bytes text.old ++ ending_text ending) }
 {
-    if stopped {
-        append(text, Line::Stop)?;
+    match ending {
+        Ending::Whole => Ok(()),
+        Ending::Stopped => append(text, Line::Stop),
     }
-    Ok(())
 }
 
 fn one_line(heap: Global, line: Line) -> Result<String, AllocError>

@@ -25,8 +25,7 @@ pub fn run<L: Library + Drop>(
     ensures { Ran (L.Library.meaning library) chart.now calls.now result }
 {
     let gate_box = start(heap, library, chart)?;
-    let run = perform_all(heap, gate_box, calls)?;
-    Ok(run)
+    Ok(perform_all(heap, gate_box, calls)?)
 }
 
 // The box of a chart, just made.

@@ -1,40 +1,27 @@
 // Every refusal of every call on a box, in the order of the tests, and that a refused call alters nothing.
-use crate::expected::{CYCLE, Expected, RESTART, bool_at, dint_at, held};
-use charts::Call;
+use crate::expected::{CYCLE, DONE, RESTART, held, is, read, sample, save, show, tune};
+use charts::Reply;
 use signals::Signal;
 use std::test::Fail;
 
 // Block 0, ADD_D, adds its own output and the constant 5. Block 1, NOT, reads terminal 0. Block 2, R_D, reads the constant 1.0.
 // Terminal 16 shows block 0, terminal 17 the DINT of block 2.
-const CHART: [u8; 31] = [
+const CHART: [u8; LENGTH] = [
     0x05, 0x02, 0, 0, 0, 0, 0x00, 0, 0, 0, 5, 0x03, 0x01, 0, 0, 0, 0, 0x0E, 0x00, 0x3F, 0x80, 0, 0,
     0x00, 16, 0, 0, 0x00, 17, 2, 0,
 ];
 
 const LENGTH: usize = 31;
 
-fn sample(terminal: u8, signal: Signal, expected: Expected) -> (Call, Expected) {
-    (Call::Sample { terminal, signal }, expected)
-}
-
-fn tune(block: u8, pin: u8, signal: Signal, expected: Expected) -> (Call, Expected) {
-    (Call::Tune { block, pin, signal }, expected)
-}
-
-fn show(terminal: u8, expected: Expected) -> (Call, Expected) {
-    (Call::Show { terminal }, expected)
-}
-
 #[test]
 fn samples(rt: HostRuntime) -> Result<(), Fail> {
-    let wrong = Expected::Refused(11);
+    let wrong = Err(11);
     held(
         &rt,
-        rt.alloc(),
         &CHART,
         &[
-            sample(32, Signal::Bool(true), Expected::Refused(10)),
-            sample(255, Signal::Real(-0.0), Expected::Refused(10)),
+            sample(32, Signal::Bool(true), Err(10)),
+            sample(255, Signal::Real(-0.0), Err(10)),
             sample(0, Signal::Int(1), wrong),
             sample(7, Signal::Dint(1), wrong),
             sample(8, Signal::Bool(true), wrong),
@@ -42,24 +29,23 @@ fn samples(rt: HostRuntime) -> Result<(), Fail> {
             sample(31, Signal::Real(f32::INFINITY), wrong),
             sample(31, Signal::Real(f32::NAN), wrong),
             CYCLE,
-            bool_at(1, 0, true),
-            sample(31, Signal::Real(f32::MAX), Expected::Done),
-            sample(0, Signal::Bool(true), Expected::Done),
-            bool_at(1, 0, true),
+            read(1, 0, is(Signal::Bool(true))),
+            sample(31, Signal::Real(f32::MAX), DONE),
+            sample(0, Signal::Bool(true), DONE),
+            read(1, 0, is(Signal::Bool(true))),
             CYCLE,
-            bool_at(1, 0, false),
+            read(1, 0, is(Signal::Bool(false))),
         ],
     )
 }
 
 #[test]
 fn tunes(rt: HostRuntime) -> Result<(), Fail> {
-    let missing = Expected::Refused(10);
-    let wired = Expected::Refused(14);
-    let wrong = Expected::Refused(11);
+    let missing = Err(10);
+    let wired = Err(14);
+    let wrong = Err(11);
     held(
         &rt,
-        rt.alloc(),
         &CHART,
         &[
             tune(3, 0, Signal::Dint(1), missing),
@@ -71,56 +57,37 @@ fn tunes(rt: HostRuntime) -> Result<(), Fail> {
             tune(0, 1, Signal::Int(7), wrong),
             tune(2, 0, Signal::Real(f32::NEG_INFINITY), wrong),
             CYCLE,
-            dint_at(0, 0, 5),
-            dint_at(2, 0, 1),
-            tune(0, 1, Signal::Dint(-2), Expected::Done),
-            tune(2, 0, Signal::Real(7.75), Expected::Done),
-            dint_at(0, 0, 5),
+            read(0, 0, is(Signal::Dint(5))),
+            read(2, 0, is(Signal::Dint(1))),
+            tune(0, 1, Signal::Dint(-2), DONE),
+            tune(2, 0, Signal::Real(7.75), DONE),
+            read(0, 0, is(Signal::Dint(5))),
             CYCLE,
-            dint_at(0, 0, 3),
-            dint_at(2, 0, 7),
+            read(0, 0, is(Signal::Dint(3))),
+            read(2, 0, is(Signal::Dint(7))),
         ],
     )
 }
 
 #[test]
 fn reads_and_shows(rt: HostRuntime) -> Result<(), Fail> {
-    let missing = Expected::Refused(10);
+    let missing = Err(10);
     held(
         &rt,
-        rt.alloc(),
         &CHART,
         &[
-            (
-                Call::Read {
-                    block: 3,
-                    output: 0,
-                },
-                missing,
-            ),
-            (
-                Call::Read {
-                    block: 0,
-                    output: 1,
-                },
-                missing,
-            ),
-            (
-                Call::Read {
-                    block: 2,
-                    output: 2,
-                },
-                missing,
-            ),
-            bool_at(2, 1, false),
+            read(3, 0, missing),
+            read(0, 1, missing),
+            read(2, 2, missing),
+            read(2, 1, is(Signal::Bool(false))),
             show(32, missing),
-            show(15, Expected::Is(Signal::Int(0))),
-            show(31, Expected::Is(Signal::Real(0.0))),
+            show(15, is(Signal::Int(0))),
+            show(31, is(Signal::Real(0.0))),
             CYCLE,
-            show(16, Expected::Is(Signal::Dint(5))),
-            show(17, Expected::Is(Signal::Dint(1))),
-            show(18, Expected::Is(Signal::Dint(0))),
-            show(0, Expected::Is(Signal::Bool(false))),
+            show(16, is(Signal::Dint(5))),
+            show(17, is(Signal::Dint(1))),
+            show(18, is(Signal::Dint(0))),
+            show(0, is(Signal::Bool(false))),
         ],
     )
 }
@@ -130,18 +97,11 @@ fn reads_and_shows(rt: HostRuntime) -> Result<(), Fail> {
 fn hidden_cells_are_missing(rt: HostRuntime) -> Result<(), Fail> {
     held(
         &rt,
-        rt.alloc(),
         &[0x09, 0x00, 0, 0, 0, 1, 0x00, 0, 0, 0, 0],
         &[
             CYCLE,
-            bool_at(0, 0, true),
-            (
-                Call::Read {
-                    block: 0,
-                    output: 1,
-                },
-                Expected::Refused(10),
-            ),
+            read(0, 0, is(Signal::Bool(true))),
+            read(0, 1, Err(10)),
         ],
     )
 }
@@ -151,36 +111,34 @@ fn hidden_cells_are_missing(rt: HostRuntime) -> Result<(), Fail> {
 fn restarts(rt: HostRuntime) -> Result<(), Fail> {
     held(
         &rt,
-        rt.alloc(),
         &CHART,
         &[
-            sample(0, Signal::Bool(true), Expected::Done),
-            tune(0, 1, Signal::Dint(9), Expected::Done),
+            sample(0, Signal::Bool(true), DONE),
+            tune(0, 1, Signal::Dint(9), DONE),
             CYCLE,
             CYCLE,
-            dint_at(0, 0, 18),
+            read(0, 0, is(Signal::Dint(18))),
             RESTART,
-            dint_at(0, 0, 0),
-            bool_at(1, 0, false),
+            read(0, 0, is(Signal::Dint(0))),
+            read(1, 0, is(Signal::Bool(false))),
             CYCLE,
-            dint_at(0, 0, 9),
-            bool_at(1, 0, false),
+            read(0, 0, is(Signal::Dint(9))),
+            read(1, 0, is(Signal::Bool(false))),
         ],
     )
 }
 
 #[test]
 fn answers_of_save(rt: HostRuntime) -> Result<(), Fail> {
-    let short = Expected::Refused(13);
+    let short = Err(13);
     held(
         &rt,
-        rt.alloc(),
         &CHART,
         &[
-            (Call::Save { room: 0 }, short),
-            (Call::Save { room: LENGTH - 1 }, short),
-            (Call::Save { room: LENGTH }, Expected::Bytes(LENGTH)),
-            (Call::Save { room: 4096 }, Expected::Bytes(LENGTH)),
+            save(0, short),
+            save(LENGTH - 1, short),
+            save(LENGTH, Ok(Reply::Bytes(LENGTH))),
+            save(4096, Ok(Reply::Bytes(LENGTH))),
         ],
     )
 }

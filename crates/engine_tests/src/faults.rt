@@ -2,6 +2,7 @@
 use crate::expected::{fault, is_accepted};
 use std::process::Abort;
 
+// Kept as a number: it is what a test takes from the rules, and not from the code.
 #[derive(Clone, Copy)]
 struct FaultyChart<'a> {
     chart: &'a [u8],

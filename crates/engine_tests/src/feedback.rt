@@ -1,30 +1,23 @@
 // Charts that feed back.
-use crate::expected::{CYCLE, Expected, RESTART, bool_at, held, int_at};
-use charts::Call;
+use crate::expected::{CYCLE, DONE, RESTART, held, is, read, sample};
 use signals::Signal;
 use std::test::Fail;
-
-fn put(terminal: u8, value: bool) -> (Call, Expected) {
-    let signal = Signal::Bool(value);
-    (Call::Sample { terminal, signal }, Expected::Done)
-}
 
 #[test]
 fn a_not_wired_to_itself(rt: HostRuntime) -> Result<(), Fail> {
     held(
         &rt,
-        rt.alloc(),
         &[0x03, 0x02, 0, 0, 0, 0],
         &[
-            bool_at(0, 0, false),
+            read(0, 0, is(Signal::Bool(false))),
             CYCLE,
-            bool_at(0, 0, true),
+            read(0, 0, is(Signal::Bool(true))),
             CYCLE,
-            bool_at(0, 0, false),
+            read(0, 0, is(Signal::Bool(false))),
             CYCLE,
-            bool_at(0, 0, true),
+            read(0, 0, is(Signal::Bool(true))),
             RESTART,
-            bool_at(0, 0, false),
+            read(0, 0, is(Signal::Bool(false))),
         ],
     )
 }
@@ -34,15 +27,14 @@ fn a_not_wired_to_itself(rt: HostRuntime) -> Result<(), Fail> {
 fn a_ring_of_two(rt: HostRuntime) -> Result<(), Fail> {
     held(
         &rt,
-        rt.alloc(),
         &[0x03, 0x02, 0, 0, 1, 0, 0x03, 0x02, 0, 0, 0, 0],
         &[
             CYCLE,
-            bool_at(0, 0, true),
-            bool_at(1, 0, false),
+            read(0, 0, is(Signal::Bool(true))),
+            read(1, 0, is(Signal::Bool(false))),
             CYCLE,
-            bool_at(0, 0, true),
-            bool_at(1, 0, false),
+            read(0, 0, is(Signal::Bool(true))),
+            read(1, 0, is(Signal::Bool(false))),
         ],
     )
 }
@@ -53,29 +45,28 @@ fn a_ring_of_two(rt: HostRuntime) -> Result<(), Fail> {
 fn a_flip_flop_of_four(rt: HostRuntime) -> Result<(), Fail> {
     held(
         &rt,
-        rt.alloc(),
         &[
             0x02, 0x01, 0, 0, 0, 0, 0x02, 0, 0, 3, 0, 0x03, 0x02, 0, 0, 0, 0, 0x02, 0x01, 0, 0, 0,
             1, 0x02, 0, 0, 1, 0, 0x03, 0x02, 0, 0, 2, 0,
         ],
         &[
-            put(0, true),
+            sample(0, Signal::Bool(true), DONE),
             CYCLE,
-            bool_at(0, 0, true),
-            bool_at(2, 0, false),
-            put(0, false),
+            read(0, 0, is(Signal::Bool(true))),
+            read(2, 0, is(Signal::Bool(false))),
+            sample(0, Signal::Bool(false), DONE),
             CYCLE,
             CYCLE,
-            bool_at(0, 0, true),
-            put(1, true),
+            read(0, 0, is(Signal::Bool(true))),
+            sample(1, Signal::Bool(true), DONE),
             CYCLE,
-            put(1, false),
-            bool_at(2, 0, true),
+            sample(1, Signal::Bool(false), DONE),
+            read(2, 0, is(Signal::Bool(true))),
             CYCLE,
-            bool_at(0, 0, false),
-            bool_at(2, 0, true),
+            read(0, 0, is(Signal::Bool(false))),
+            read(2, 0, is(Signal::Bool(true))),
             CYCLE,
-            bool_at(0, 0, false),
+            read(0, 0, is(Signal::Bool(false))),
         ],
     )
 }
@@ -85,19 +76,18 @@ fn a_flip_flop_of_four(rt: HostRuntime) -> Result<(), Fail> {
 fn a_memory_that_resets_itself(rt: HostRuntime) -> Result<(), Fail> {
     held(
         &rt,
-        rt.alloc(),
         &[0x0B, 0x01, 0, 0, 0, 0, 0x02, 0, 0, 0, 0],
         &[
-            put(0, true),
+            sample(0, Signal::Bool(true), DONE),
             CYCLE,
-            bool_at(0, 0, true),
+            read(0, 0, is(Signal::Bool(true))),
             CYCLE,
-            bool_at(0, 0, false),
+            read(0, 0, is(Signal::Bool(false))),
             CYCLE,
-            bool_at(0, 0, true),
-            put(0, false),
+            read(0, 0, is(Signal::Bool(true))),
+            sample(0, Signal::Bool(false), DONE),
             CYCLE,
-            bool_at(0, 0, false),
+            read(0, 0, is(Signal::Bool(false))),
         ],
     )
 }
@@ -107,29 +97,28 @@ fn a_memory_that_resets_itself(rt: HostRuntime) -> Result<(), Fail> {
 fn a_counter_that_resets_itself(rt: HostRuntime) -> Result<(), Fail> {
     held(
         &rt,
-        rt.alloc(),
         &[
             0x03, 0x02, 0, 0, 0, 0, 0x0A, 0x02, 0, 0, 0, 0, 0x00, 0, 0, 0, 0, 0x02, 0, 0, 1, 1,
             0x00, 0, 0, 0, 3, 0x00, 0, 0, 0, 0,
         ],
         &[
             CYCLE,
-            int_at(1, 0, 1),
-            bool_at(1, 1, false),
+            read(1, 0, is(Signal::Int(1))),
+            read(1, 1, is(Signal::Bool(false))),
             CYCLE,
-            int_at(1, 0, 1),
+            read(1, 0, is(Signal::Int(1))),
             CYCLE,
-            int_at(1, 0, 2),
+            read(1, 0, is(Signal::Int(2))),
             CYCLE,
             CYCLE,
-            int_at(1, 0, 3),
-            bool_at(1, 1, true),
+            read(1, 0, is(Signal::Int(3))),
+            read(1, 1, is(Signal::Bool(true))),
             CYCLE,
-            int_at(1, 0, 0),
-            bool_at(1, 1, false),
-            bool_at(1, 2, true),
+            read(1, 0, is(Signal::Int(0))),
+            read(1, 1, is(Signal::Bool(false))),
+            read(1, 2, is(Signal::Bool(true))),
             CYCLE,
-            int_at(1, 0, 1),
+            read(1, 0, is(Signal::Int(1))),
         ],
     )
 }

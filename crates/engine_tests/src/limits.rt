@@ -2,23 +2,21 @@
 use crate::expected::{fault, is_accepted};
 use blocks::Refusal;
 use boxes::Loader;
-use loading::LoadError;
+use loading::{Fault, LoadError};
 use signals::Signal;
 use std::alloc::{AllocError, Global};
+use std::iter::repeat_n;
 use std::test::Fail;
 
-// So many NOTs, each reading terminal 0, and the bytes of `end` behind them.
+// A NOT that reads terminal 0.
+const NOT: [u8; 6] = [0x03, 0x01, 0, 0, 0, 0];
+
+// So many NOTs, and the bytes of `end` behind them.
 fn nots(heap: Global, count: usize, end: &[u8]) -> Result<Vec<u8>, AllocError> {
-    let mut chart = Vec::new(heap);
-    for _ in 0..count {
-        for byte in [0x03u8, 0x01, 0, 0, 0, 0] {
-            chart.push(byte)?;
-        }
-    }
-    for byte in end {
-        chart.push(*byte)?;
-    }
-    Ok(chart)
+    repeat_n(NOT, count)
+        .flatten()
+        .chain(end.iter().copied())
+        .collect(heap)
 }
 
 #[test]
@@ -64,7 +62,7 @@ fn a_box_without_blocks(rt: HostRuntime) {
     assert_eq!(rt; gate_box.save(&mut []), Ok(0));
     let mut buffer = [7u8; 2];
     assert_eq!(rt; gate_box.save(&mut buffer), Ok(0));
-    assert!(rt; buffer == [7u8, 7]);
+    assert_eq!(rt; buffer, [7, 7]);
 }
 
 // A refused load leaves the page of the load before it.
@@ -72,14 +70,12 @@ fn a_box_without_blocks(rt: HostRuntime) {
 fn a_refused_load_leaves_the_page(rt: HostRuntime) {
     let mut loader = Loader::new(rt.alloc(), shipped::library());
     assert_eq!(rt; loader.load(&[0x03, 0x02, 0, 0, 0, 0]), Ok(()));
-    assert!(rt;
-        matches!(
-            loader.load(&[0x03, 0x02, 0, 0, 1, 0]),
-            Err(LoadError::Refused {
-                fault: loading::Fault::Missing,
-                place: 0
-            })
-        )
+    assert_eq!(rt;
+        loader.load(&[0x03, 0x02, 0, 0, 1, 0]),
+        Err(LoadError::Refused {
+            fault: Fault::Missing,
+            place: 0
+        })
     );
     let mut gate_box = loader.make();
     gate_box.cycle();

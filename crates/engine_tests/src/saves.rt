@@ -17,11 +17,11 @@ fn a_fresh_chart_comes_back(rt: HostRuntime) -> Result<(), Fail> {
     let gate_box = start(rt.alloc(), shipped::library(), &CHART)?;
     let mut exact = [0u8; 15];
     assert_eq!(rt; gate_box.save(&mut exact), Ok(15));
-    assert!(rt; exact == CHART);
+    assert_eq!(rt; exact, CHART);
     let mut longer = [0xAAu8; 17];
     assert_eq!(rt; gate_box.save(&mut longer), Ok(15));
-    assert!(rt; longer[0..15] == CHART[0..15]);
-    assert!(rt; longer[15] == 0xAA && longer[16] == 0xAA);
+    assert_eq!(rt; &longer[..15], CHART.as_slice());
+    assert_eq!(rt; &longer[15..], [0xAA, 0xAA].as_slice());
     Ok(())
 }
 
@@ -30,7 +30,7 @@ fn a_short_buffer_is_left(rt: HostRuntime) -> Result<(), Fail> {
     let gate_box = start(rt.alloc(), shipped::library(), &CHART)?;
     let mut short = [0xAAu8; 14];
     assert_eq!(rt; gate_box.save(&mut short), Err(Refusal::ShortBuffer));
-    assert!(rt; short == [0xAAu8; 14]);
+    assert_eq!(rt; short, [0xAA; 14]);
     assert_eq!(rt; gate_box.save(&mut []), Err(Refusal::ShortBuffer));
     Ok(())
 }
@@ -43,7 +43,7 @@ fn a_tuned_chart_loads_again(rt: HostRuntime) -> Result<(), Fail> {
     gate_box.cycle();
     let mut saved = [0u8; 15];
     assert_eq!(rt; gate_box.save(&mut saved), Ok(15));
-    assert!(rt; saved == TUNED);
+    assert_eq!(rt; saved, TUNED);
     let mut again = start(rt.alloc(), shipped::library(), &saved)?;
     assert_eq!(rt; again.show(16), Ok(Signal::Dint(0)));
     again.cycle();

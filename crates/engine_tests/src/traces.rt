@@ -1,5 +1,5 @@
 // Trace: which blocks a signal of one block can reach.
-use loading::Fault;
+use loading::{Fault, LoadError};
 use std::process::Abort;
 use tracing::trace::trace_block;
 use tracing::{Trace, TraceError};
@@ -63,18 +63,18 @@ fn refusals(rt: HostRuntime) {
         &rt,
         &[0x03, 0x02, 0, 0, 1, 0],
         9,
-        Err(TraceError::Refused {
+        Err(TraceError::Load(LoadError::Refused {
             fault: Fault::Missing,
             place: 0,
-        }),
+        })),
     );
     traced(
         &rt,
         &[],
         0,
-        Err(TraceError::Refused {
+        Err(TraceError::Load(LoadError::Refused {
             fault: Fault::NoBlock,
             place: 0,
-        }),
+        })),
     );
 }

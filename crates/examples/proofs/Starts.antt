@@ -21,13 +21,13 @@ started m k i x e = ap (λ n. take n (m.start k)) (add-one i) ∙ some_more (m.s
     go (Some s) f = f
 
 -- as many cells as the shape has are all of them
-pub all_started : (m : Meaning) → Lawful m → (k p n o : ℕ) (cells : List Signal) → Some (p, n, o) ≡ counts_of m k → cells ≡ take n (m.start k) → cells ≡ m.start k
-all_started m law k p n o cells e taken = taken ∙ go (m.shape k) refl e
+pub all_started : (m : Meaning) → Lawful m → (k : ℕ) (n : ℕ × ℕ × ℕ) (cells : List Signal) → Some n ≡ counts_of m k → cells ≡ take n.1 (m.start k) → cells ≡ m.start k
+all_started m law k n cells e taken = taken ∙ go (m.shape k) refl e
   where
-    go : (q : Option Shape) → m.shape k ≡ q → Some (p, n, o) ≡ option_map counts q → take n (m.start k) ≡ m.start k
+    go : (q : Option Shape) → m.shape k ≡ q → Some n ≡ option_map counts q → take n.1 (m.start k) ≡ m.start k
     go None sh f = absurd (let z : ◌≡◌ {A = ℕ} 0 1 = cc in omega arith)
     go (Some s) sh f =
-        let same : ◌≡◌ {A = ℕ × ℕ × ℕ} (p, n, o) (counts s) = cc in
-        let many : n ≡ length s.cells = ap (λ t. t.1) same in
-        let long : length (m.start k) ≡ n = sym (length-map (m.start k) type_of) ∙ ap length (law.starts k s sh) ∙ sym many in
-        take_all n (m.start k) (omega (arith, long))
+        let same : n ≡ counts s = cc in
+        let many : n.1 ≡ length s.cells = ap (λ t. t.1) same in
+        let long : length (m.start k) ≡ n.1 = sym (length-map (m.start k) type_of) ∙ ap length (law.starts k s sh) ∙ sym many in
+        take_all n.1 (m.start k) (omega (arith, long))

@@ -6,7 +6,6 @@ ghost use Rattle.signals.specs.declared.signal.Signal.{Signal};
 ghost use Rattle.examples.specs.Blocks.{AtStart, Went, out};
 
 use crate::fault::Fault;
-use blocks::list::item;
 use blocks::{Library, Refusal};
 use signals::Signal;
 use std::alloc::Global;
@@ -22,9 +21,7 @@ impl Block {
     pub fn new<L: Library>(heap: Global, library: &L, kind: u8) -> Result<Block, Fault>
         ensures { IfOk result (λ b. AtStart (L.Library.meaning library.now) kind b) }
     {
-        let Some((_, count, _)) = library.shape(kind) else {
-            return Err(Fault::Refused(Refusal::Missing));
-        };
+        let (_, count, _) = library.shape(kind).ok_or(Refusal::Missing)?;
         let cells = first_cells(heap, library, kind, count)?;
         Ok(Block { kind, cells })
     }
@@ -46,10 +43,7 @@ impl Block {
     pub fn first_output(&self) -> Result<Signal, Fault>
         ensures { (s : Signal) → result ≡ Ok s → s ≡ out self.now }
     {
-        match item(self.cells(), 0) {
-            Some(signal) => Ok(signal),
-            None => Err(Fault::NoCell),
-        }
+        self.cells().first().copied().ok_or(Fault::NoCell)
     }
 
     // One step, and then the first output.
@@ -63,6 +57,7 @@ impl Block {
 }
 
 // What the first cells of a kind start at.
+// Kept: tried `(0..count).map(..).try_collect(heap)`, and the proof did not close: std says its values place by place.
 fn first_cells<L: Library>(
     heap: Global,
     library: &L,
@@ -73,9 +68,7 @@ fn first_cells<L: Library>(
 {
     let mut cells = Vec::new(heap);
     for cell in 0..count {
-        let Some(signal) = library.start(kind, cell) else {
-            return Err(Fault::NoCell);
-        };
+        let signal = library.start(kind, cell).ok_or(Fault::NoCell)?;
         cells.push(signal)?;
     }
     Ok(cells)

@@ -6,7 +6,7 @@ ghost use Rattle.examples.specs.declared.gate.Row.{Row};
 
 use crate::block::Block;
 use crate::fault::Fault;
-use crate::shipped::{ADD_D, CTR, HYS, LIM_D, NSW_D, PDE};
+use crate::numbers::{ADD_D, CTR, HYS, LIM_D, NSW_D, PDE};
 use crate::text::Shown;
 use blocks::Library;
 use signals::Signal;
@@ -98,6 +98,7 @@ impl fmt::Display for Row {
     ghost output = { λ row. row_text row };
 
     fn fmt<W: fmt::Write>(&self, f: &mut fmt::Formatter<W>) -> fmt::Result {
+        // Kept as two digits: with `{:02}` the text of a row would be stated by what padding does, which is no plainer.
         let tens = self.hour / 10;
         let ones = self.hour % 10;
         let level = Shown(self.level);

@@ -5,7 +5,7 @@ mod block;
 mod border;
 mod fault;
 mod gate;
-mod shipped;
+mod numbers;
 mod text;
 
 use blocks::Library;
@@ -29,11 +29,9 @@ const LEVELS: [i32; 24] = [
 
 fn print_day<L: Library>(rt: &HostRuntime, library: &L) -> anyhow::Result<()> {
     let mut gate = Gate::new(rt.alloc(), library)?;
-    let mut hour = 0;
-    for level in LEVELS {
+    for (hour, level) in (0..24u8).zip(LEVELS) {
         let row = gate.cycle(library, hour, level)?;
         println!(rt; "{row}")?;
-        hour = hour.saturating_add(1);
     }
     Ok(())
 }

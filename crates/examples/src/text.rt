@@ -16,27 +16,11 @@ impl fmt::Display for Shown {
     fn fmt<W: fmt::Write>(&self, f: &mut fmt::Formatter<W>) -> fmt::Result {
         let signal = self.0;
         match signal {
-            Signal::Bool(b) => write!(f, "{}", b as u8),
+            Signal::Bool(b) => write!(f, "{}", u8::from(b)),
             Signal::Int(n) => write!(f, "{n}"),
             Signal::Dint(n) => write!(f, "{n}"),
             Signal::Real(x) => write!(f, "{x:?} ({:08X})", u32::from_be_bytes(encode(signal))),
         }
-    }
-}
-
-// Signals, one after another.
-#[derive(Clone, Copy)]
-pub struct Listed<'a>(pub &'a [Signal]);
-
-impl fmt::Display for Listed<'_> {
-    fn fmt<W: fmt::Write>(&self, f: &mut fmt::Formatter<W>) -> fmt::Result {
-        let mut gap = "";
-        for signal in self.0 {
-            let shown = Shown(*signal);
-            write!(f, "{gap}{shown}")?;
-            gap = " ";
-        }
-        Ok(())
     }
 }
 

@@ -5,32 +5,37 @@ mod fault;
 mod sheet;
 mod verdict;
 
-use anyhow::anyhow;
+use anyhow::ensure;
+use console::session::transcript;
 use sheet::Sheet;
 use std::{env, fs};
-use verdict::{Verdict, judge};
+use verdict::{Agreement, Difference, judge};
 
 fn main(rt: HostRuntime) -> anyhow::Result<()> {
     run(&rt)
 }
 
 fn run(rt: &HostRuntime) -> anyhow::Result<()> {
-    let mut wrong = 0u32;
+    // Kept: every chart is run and told of before the program fails.
+    let mut all_agree = true;
     for name in env::args(rt)?.skip(1) {
-        let verdict = judge_file(rt, &name)?;
-        if !verdict.is_right() {
-            wrong = wrong.saturating_add(1);
+        match judge_file(rt, &name)? {
+            Ok(agreement) => println!(rt; "{name}: {agreement}")?,
+            Err(difference) => {
+                println!(rt; "{name}: {difference}")?;
+                all_agree = false;
+            }
         }
-        println!(rt; "{name}: {verdict}")?;
     }
-    if wrong > 0 {
-        return Err(anyhow!("not every chart gave what is written"));
-    }
+    ensure!(all_agree, "not every chart gave what is written");
     Ok(())
 }
 
-fn judge_file(rt: &HostRuntime, name: &str) -> anyhow::Result<Verdict> {
+// The outer error is one of the file or of memory.
+fn judge_file(rt: &HostRuntime, name: &str) -> anyhow::Result<Result<Agreement, Difference>> {
     let text = fs::read_to_string(rt, name)?;
     let sheet = Sheet::parse(rt.alloc(), &text)?;
-    Ok(judge(rt.alloc(), &shipped::library(), &sheet)?)
+    let library = shipped::library();
+    let printed = transcript(rt.alloc(), &library, &sheet.chart, &sheet.calls)?;
+    Ok(judge(rt.alloc(), &library, &sheet, &printed))
 }

@@ -1,6 +1,7 @@
 // A sheet: a chart and calls in hexadecimal bytes, what must be printed, and what must be lit.
 use crate::fault::SheetError;
 use std::alloc::Global;
+use std::str::FromStr;
 use tracing::Trace;
 
 // The block that is traced, and what must be lit.
@@ -8,6 +9,25 @@ use tracing::Trace;
 pub struct Lit {
     pub block: u8,
     pub trace: Trace,
+}
+
+impl FromStr for Lit {
+    type Err = SheetError;
+
+    fn from_str(line: &str) -> Result<Lit, SheetError> {
+        let mut words = line.split_whitespace();
+        let (Some(block), Some(set), Some(lamps)) = (words.next(), words.next(), words.next())
+        else {
+            return Err(SheetError::NoTrace);
+        };
+        let block = block.parse()?;
+        let set = set.parse()?;
+        let lamps = lamps.parse()?;
+        Ok(Lit {
+            block,
+            trace: Trace { set, lamps },
+        })
+    }
 }
 
 #[derive(Drop)]
@@ -51,6 +71,7 @@ impl Sheet {
         }
     }
 
+    // Kept: headings are a closed enum, and a match over it is the plain form.
     fn take_line(&mut self, heading: Option<Heading>, line: &str) -> Result<(), SheetError> {
         if line.is_empty() {
             return Ok(());
@@ -66,23 +87,17 @@ impl Sheet {
 }
 
 fn without_comment(line: &str) -> &str {
-    match line.split_once('#') {
-        Some((front, _)) => front,
-        None => line,
-    }
+    line.split_once('#').map_or(line, |(front, _)| front)
 }
 
+// Kept beside `FromStr`: that a line is no heading is no error.
 fn heading_of(line: &str) -> Option<Heading> {
-    if line == "chart" {
-        Some(Heading::Chart)
-    } else if line == "calls" {
-        Some(Heading::Calls)
-    } else if line == "prints" {
-        Some(Heading::Prints)
-    } else if line == "traces" {
-        Some(Heading::Traces)
-    } else {
-        None
+    match line {
+        "chart" => Some(Heading::Chart),
+        "calls" => Some(Heading::Calls),
+        "prints" => Some(Heading::Prints),
+        "traces" => Some(Heading::Traces),
+        _ => None,
     }
 }
 
@@ -100,16 +115,6 @@ fn take_print(prints: &mut String, line: &str) -> Result<(), SheetError> {
 }
 
 fn take_trace(traces: &mut Vec<Lit>, line: &str) -> Result<(), SheetError> {
-    let mut words = line.split_whitespace();
-    let (Some(block), Some(set), Some(lamps)) = (words.next(), words.next(), words.next()) else {
-        return Err(SheetError::NoTrace);
-    };
-    let block = block.parse::<u8>()?;
-    let set = set.parse::<u64>()?;
-    let lamps = lamps.parse::<u32>()?;
-    traces.push(Lit {
-        block,
-        trace: Trace { set, lamps },
-    })?;
+    traces.push(line.parse::<Lit>()?)?;
     Ok(())
 }

@@ -1,75 +1,70 @@
 // What a chart does, held to what its sheet says.
 use crate::sheet::{Lit, Sheet};
 use blocks::Library;
-use console::session::transcript;
-use std::alloc::{AllocError, Global};
+use std::alloc::Global;
 use std::fmt;
-use tracing::Trace;
+use thiserror::Error;
 use tracing::trace::trace_block;
 
-#[derive(Clone, Copy)]
-pub enum Verdict {
-    // As many lines were printed and as many blocks traced, all as the sheet says.
-    Right { lines: usize, traces: usize },
-    // The line with this number, counted from 1, is another.
-    OtherLine(usize),
-    // The trace of this block is another.
-    OtherTrace(u8),
+// As many lines were printed and as many blocks traced, all as the sheet says.
+#[derive(Clone, Copy, Debug, PartialEq, Eq)]
+pub struct Agreement {
+    pub lines: usize,
+    pub traces: usize,
 }
 
-impl Verdict {
-    pub fn is_right(self) -> bool {
-        matches!(self, Verdict::Right { .. })
-    }
-}
-
-impl fmt::Display for Verdict {
+impl fmt::Display for Agreement {
     fn fmt<W: fmt::Write>(&self, f: &mut fmt::Formatter<W>) -> fmt::Result {
-        match *self {
-            Verdict::Right { lines, traces } => {
-                write!(f, "{lines} lines and {traces} traces, as written")
-            }
-            Verdict::OtherLine(number) => write!(f, "line {number} differs"),
-            Verdict::OtherTrace(block) => write!(f, "the trace of block {block} differs"),
-        }
+        let Agreement { lines, traces } = *self;
+        write!(f, "{lines} lines and {traces} traces, as written")
     }
 }
 
-pub fn judge<L: Library>(heap: Global, library: &L, sheet: &Sheet) -> Result<Verdict, AllocError> {
-    let text = transcript(heap, library, &sheet.chart, &sheet.calls)?;
-    if let Some(number) = first_difference(&text, &sheet.prints) {
-        return Ok(Verdict::OtherLine(number));
-    }
-    if let Some(block) = other_trace(heap, library, sheet) {
-        return Ok(Verdict::OtherTrace(block));
-    }
-    Ok(Verdict::Right {
-        lines: text.lines().count(),
-        traces: sheet.traces.len(),
-    })
+// The first that is not as the sheet says.
+#[derive(Debug, Drop, Error)]
+pub enum Difference {
+    // A line, by its number, counted from 1.
+    #[error("line {0} differs")]
+    Line(usize),
+    // The trace of a block.
+    #[error("the trace of block {0} differs")]
+    Trace(u8),
 }
 
-// The number of the first line in which two texts differ.
-fn first_difference(text: &str, expected: &str) -> Option<usize> {
+pub fn judge<L: Library>(
+    heap: Global,
+    library: &L,
+    sheet: &Sheet,
+    printed: &str,
+) -> Result<Agreement, Difference> {
+    let lines = compare_lines(printed, &sheet.prints)?;
+    let traces = compare_traces(heap, library, sheet)?;
+    Ok(Agreement { lines, traces })
+}
+
+// How many lines two texts have, where they are the same.
+fn compare_lines(text: &str, expected: &str) -> Result<usize, Difference> {
     if text == expected {
-        return None;
+        return Ok(text.lines().count());
     }
-    let mut number = 1usize;
-    for (line, other) in text.lines().zip(expected.lines()) {
-        if line != other {
-            return Some(number);
-        }
-        number = number.saturating_add(1);
-    }
-    Some(number)
+    let same = text
+        .lines()
+        .zip(expected.lines())
+        .take_while(|(line, other)| line == other)
+        .count();
+    Err(Difference::Line(same + 1))
 }
 
-// The first block whose trace is not as the sheet says.
-fn other_trace<L: Library>(heap: Global, library: &L, sheet: &Sheet) -> Option<u8> {
+// How many blocks were traced, where each trace is as the sheet says.
+fn compare_traces<L: Library>(
+    heap: Global,
+    library: &L,
+    sheet: &Sheet,
+) -> Result<usize, Difference> {
     for Lit { block, trace } in sheet.traces.iter().copied() {
         if trace_block(heap, library, &sheet.chart, block) != Ok(trace) {
-            return Some(block);
+            return Err(Difference::Trace(block));
         }
     }
-    None
+    Ok(sheet.traces.len())
 }

@@ -6,7 +6,7 @@ use Rattle.std.proofs.lemmas.Option.{slice_get_past}
 use Rattle.signals.specs.Signals.{type_of}
 use Rattle.signals.specs.declared.signal.Signal.{Signal}
 use Rattle.blocks.specs.Meanings.{Shape, Meaning, Sized, Lawful}
-use Rattle.table.specs.Kinds.{standard_kinds, house_kinds, standard_kind, house_kind, counted_from_one, start_cells, shape_of}
+use Rattle.table.specs.Kinds.{standard_kinds, house_kinds, few_standard, few_house, counted_from_one, start_cells, shape_of}
 use Rattle.steps.specs.Rules.{new_cells}
 use Rattle.table.specs.declared.Kind.{Kind}
 use Rattle.table.specs.declared.Kind.TheVariants.{And, Or, Not, Add, AddD, DivD, Lim, LimD, Pde, Ctr, Rsr, NswD, IR, RD, N2R, Hys}
@@ -24,11 +24,15 @@ new_as (Some k) ps cs = new_cells k ps cs
 abbrev pub meaning_of : (ℕ → Option Kind) → Meaning
 meaning_of numbered_kind = record { shape = λ n. option_map shape_of (numbered_kind n); start = λ n. start_as (numbered_kind n); new = λ n. new_as (numbered_kind n) }
 
+-- of the kinds of a list, which count from 1
+abbrev pub meaning_of_listed : List Kind → Meaning
+meaning_of_listed ks = meaning_of (counted_from_one ks)
+
 abbrev pub standard_meaning : Meaning
-standard_meaning = meaning_of standard_kind
+standard_meaning = meaning_of_listed standard_kinds
 
 abbrev pub house_meaning : Meaning
-house_meaning = meaning_of house_kind
+house_meaning = meaning_of_listed house_kinds
 
 -- ---- the law
 
@@ -77,15 +81,15 @@ kind_typed Hys ps cs = refl
 
 module _ (numbered_kind : ℕ → Option Kind) where
   sized_as : (o : Option Kind) (s : Shape) → option_map shape_of o ≡ Some s → Sized s
-  sized_as None s e = absurd (let z : ◌≡◌ {A = ℕ} 0 1 = cc in omega arith)
+  sized_as None s e = absurd cc
   sized_as (Some k) s e = subst Sized (some_same e) (kind_sized k)
 
   starts_as : (o : Option Kind) (s : Shape) → option_map shape_of o ≡ Some s → map type_of (start_as o) ≡ s.cells
-  starts_as None s e = absurd (let z : ◌≡◌ {A = ℕ} 0 1 = cc in omega arith)
+  starts_as None s e = absurd cc
   starts_as (Some k) s e = ap (λ t. t.cells) (some_same e)
 
   steps_as : (o : Option Kind) (s : Shape) (ps cs : List Signal) → option_map shape_of o ≡ Some s → map type_of (new_as o ps cs) ≡ s.cells
-  steps_as None s ps cs e = absurd (let z : ◌≡◌ {A = ℕ} 0 1 = cc in omega arith)
+  steps_as None s ps cs e = absurd cc
   steps_as (Some k) s ps cs e = kind_typed k ps cs ∙ ap (λ t. t.cells) (some_same e)
 
   lawful_of : numbered_kind 0 ≡ None → ((n : ℕ) → 256 ≤ n → numbered_kind n ≡ None) → Lawful (meaning_of numbered_kind)
@@ -101,8 +105,11 @@ few_beyond : (ks : List Kind) → length ks ≤ 255 → (n : ℕ) → 256 ≤ n 
 few_beyond ks few zero h = refl
 few_beyond ks few (suc n) h = slice_get_past ks n (omega arith)
 
+pub listed_lawful : (ks : List Kind) → length ks ≤ 255 → Lawful (meaning_of_listed ks)
+listed_lawful ks few = lawful_of (counted_from_one ks) refl (few_beyond ks few)
+
 pub standard_lawful : Lawful standard_meaning
-standard_lawful = lawful_of standard_kind refl (few_beyond standard_kinds (lit≤ tt))
+standard_lawful = listed_lawful standard_kinds few_standard
 
 pub house_lawful : Lawful house_meaning
-house_lawful = lawful_of house_kind refl (few_beyond house_kinds (lit≤ tt))
+house_lawful = listed_lawful house_kinds few_house

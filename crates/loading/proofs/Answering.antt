@@ -1,6 +1,5 @@
 -- What load answers, from what the walks and the builder answer. Assumes nothing.
-use Rattle.std.proofs.Common.{◌≡◌, ℕ, suc, ◌≤◌, List, [], ◌∷◌, map, length, get_or, IsErrAnd, Some, None, Ok, Err, vec_items, Option, Result, Vec, sym, refl, ap, ◌∙◌, subst, arith, w8, Fits}
-use Rattle.std.specs.Option.{option_map}
+use Rattle.std.proofs.Common.{◌≡◌, ℕ, suc, ◌≤◌, List, [], ◌∷◌, map, length, get_or, IsErrAnd, Ok, Err, vec_items, Result, Vec, sym, refl, ap, ◌∙◌, subst, arith, w8, Fits}
 use Rattle.std.proofs.lemmas.Result.{err_from_is_err_and}
 use Rattle.std.specs.declared.alloc.Global.{Global}
 use Rattle.blocks.specs.Meanings.{Meaning}
@@ -12,8 +11,9 @@ use Rattle.charts.proofs.Faulted.{refused_fault}
 use Rattle.charts.proofs.Loads.{loaded_sound, loaded_written}
 use Rattle.loading.specs.Built.{Built}
 use Rattle.loading.specs.FaultNumbers.{fault_number}
-use Rattle.loading.specs.Loaded.{Loaded, Means, WalkedOne, numbered_fault, refusal_of}
+use Rattle.loading.specs.Loaded.{Loaded, Means, WalkedOne}
 use Rattle.loading.specs.Models.{page_model, cells_model}
+use Rattle.loading.specs.Walks.{WalkedTwo}
 use Rattle.loading.specs.declared.fault.Fault.{Fault}
 use Rattle.loading.specs.declared.fault.LoadError.{LoadError}
 use Rattle.loading.specs.declared.page.Page.{Page}
@@ -49,23 +49,18 @@ module _ (m : Meaning) (chart : List ℕ) where
         ∙ with_kinds rs (vec_items ks) passed.3
         ∙ ap (λ xs. Loading.after_two (Loading.page_in m.shape rs) (Loading.walk_two m.shape xs 0 rs)) (sym kinds_are)
 
-    abbrev Two : Option (Fault × ℕ) → Type 0
-    Two o = (rs : List Loading.Raw) → Loading.walk_one m.shape Pages.block_limit Loading.nothing_met 0 0 chart ≡ Ok rs → option_map numbered_fault o ≡ Loading.walk_two m.shape kinds 0 rs
-
-    pub two_refused : (o : Option (Fault × ℕ)) → Two o → (e : LoadError) → Err e ≡ refusal_of o → (r : Result Page LoadError) → IsErrAnd r (λ d. d ≡ e) → Loaded m chart r × Means m chart r
-    two_refused None h e q r by = let z : ◌≡◌ {A = ℕ} 0 1 = cc (q) in absurd (omega arith)
-    two_refused (Some f) h e q r by =
-        let same : LoadError.Refused f.0 f.1 ≡ e = cc (q) in
+    pub two_refused : (e : LoadError) → WalkedTwo m kinds chart (Err e) → (r : Result Page LoadError) → IsErrAnd r (λ d. d ≡ e) → Loaded m chart r × Means m chart r
+    two_refused (LoadError.Refused f place) h r by =
         let p = err_from_is_err_and r by in
-        let loads = by_two ∙ ap (Loading.after_two (Loading.page_in m.shape passed.0)) (sym (h passed.0 passed.1)) in
-        subst (λ x. Loaded m chart x × Means m chart x) (ap Err same ∙ sym (p.1 ∙ ap Err p.2)) (at_fault f.0 f.1 loads)
+        let loads = by_two ∙ ap (Loading.after_two (Loading.page_in m.shape passed.0)) (h passed.0 passed.1) in
+        subst (λ x. Loaded m chart x × Means m chart x) (sym (p.1 ∙ ap Err p.2)) (at_fault f place loads)
+    two_refused LoadError.Memory h r by = absurd h
 
-    pub accepted : (o : Option (Fault × ℕ)) → Two o → (u : Unit {0}) → Ok u ≡ refusal_of o → Bytes chart → (p : Page)
+    pub accepted : (u : Unit {0}) → WalkedTwo m kinds chart (Ok u) → Bytes chart → (p : Page)
         → ((rs : List Loading.Raw) → Loading.walk_one m.shape Pages.block_limit Loading.nothing_met 0 0 chart ≡ Ok rs → Built m rs p) → Loaded m chart (Ok p) × Means m chart (Ok p)
-    accepted (Some f) h u q b p built = let z : ◌≡◌ {A = ℕ} 0 1 = cc (q) in absurd (omega arith)
-    accepted None h u q b p built =
+    accepted u h b p built =
         let page = Loading.page_in m.shape passed.0 in
         let MadeSo = built passed.0 passed.1 in
-        let loads : Loading.load m.shape Pages.block_limit chart ≡ Ok (page_model p) = by_two ∙ ap (Loading.after_two page) (sym (h passed.0 passed.1)) ∙ ap Ok (sym MadeSo.0) in
+        let loads : Loading.load m.shape Pages.block_limit chart ≡ Ok (page_model p) = by_two ∙ ap (Loading.after_two page) (h passed.0 passed.1) ∙ ap Ok (sym MadeSo.0) in
         let cells : cells_model p ≡ map (λ x. starting m x.kind) (page_model p).blocks = MadeSo.1 ∙ ap (λ q. map (λ x. starting m x.kind) q.blocks) (sym MadeSo.0) in
         ((loads, cells), (loaded_sound m.shape Pages.block_limit chart (page_model p) b loads, loaded_written m.shape Pages.block_limit chart (page_model p) b loads))

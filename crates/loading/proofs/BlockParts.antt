@@ -1,14 +1,18 @@
 -- The parts of a block that a library is asked for: its pins and their sources, and its starting cells. Assumes nothing.
-use Rattle.std.proofs.Common.{◌≡◌, ℕ, zero, suc, ◌+◌, ◌-◌, ◌<◌, ◌≤◌, List, [], ◌∷◌, ◌++◌, length, get_or, take, drop, Some, None, Option, sym, refl, ap, ◌∙◌, add-one, arith}
-use Rattle.std.proofs.lemmas.List.{append_assoc, append-nil, drop_all, take_all, take_rest}
+use Rattle.std.proofs.Common.{◌≡◌, ℕ, zero, suc, ◌+◌, ◌/◌, ◌<◌, ◌≤◌, List, [], ◌∷◌, ◌++◌, map, length, get_or, take, drop, Some, None, Option, sym, refl, ap, ◌∙◌, add-one, arith}
+use Rattle.std.proofs.lemmas.List.{append_assoc, append-nil, drop_all, take_all}
 use Rattle.std.specs.List.{slice_get}
+use Rattle.std.specs.Simd.{first_chunks}
 use Rattle.signals.specs.declared.signal.Signal.{Signal}
 use Rattle.signals.specs.declared.signal.SignalType.{SignalType}
 use Rattle.blocks.specs.Meanings.{Shape, Meaning, with_shape, start_of, pin_type_of}
 use Rattle.charts.specs.Boxes.{starting, starting_as}
-use Rattle.charts.specs.Loading.{Pin, pins_of, pins_in, source_of, sources_of}
+use Rattle.charts.specs.Loading.{pins_of, source_of, sources_of}
 use Rattle.charts.specs.declared.page.Source.{Source}
 use Rattle.charts.proofs.Places.{nth_within}
+use Rattle.loading.specs.Built.{sources_in}
+use Rattle.loading.specs.Walks.{pin_of}
+use Rattle.loading.proofs.Pins.{pins_by_fives, next_five}
 
 -- ---- lists
 
@@ -69,52 +73,41 @@ module _ (m : Meaning) (kind k n : ℕ) (k_is : k ≡ n) where
 
 -- ---- pins, one after the other
 
-abbrev front_pin : List ℕ → Pin
-front_pin rest = record { tag = get_or rest 0 0; first = get_or rest 1 0; second = get_or rest 2 0; third = get_or rest 3 0; fourth = get_or rest 4 0 }
-
-pins_front : (rest : List ℕ) → 5 ≤ length rest → pins_in rest ≡ front_pin rest ∷ pins_in (drop 5 rest)
-pins_front [] l = absurd (omega arith)
-pins_front (t ∷ []) l = absurd (omega arith)
-pins_front (t ∷ a ∷ []) l = absurd (omega arith)
-pins_front (t ∷ a ∷ b ∷ []) l = absurd (omega arith)
-pins_front (t ∷ a ∷ b ∷ c ∷ []) l = absurd (omega arith)
-pins_front (t ∷ a ∷ b ∷ c ∷ d ∷ more) l = refl
-
-pins_short : (rest : List ℕ) → length rest < 5 → pins_in rest ≡ []
-pins_short [] l = refl
-pins_short (t ∷ []) l = refl
-pins_short (t ∷ a ∷ []) l = refl
-pins_short (t ∷ a ∷ b ∷ []) l = refl
-pins_short (t ∷ a ∷ b ∷ c ∷ []) l = refl
-pins_short (t ∷ a ∷ b ∷ c ∷ d ∷ more) l = absurd (omega arith)
-
 no_sources : (ts : List SignalType) → sources_of ts [] ≡ []
 no_sources [] = refl
 no_sources (t ∷ ts) = refl
 
--- The library is asked for the pin at k, the number of sources so far. These, and what the rest gives, are all.
-module _ (m : Meaning) (kind k n : ℕ) (k_is : k ≡ n) (rest : List ℕ) (xs all : List Source) (inv : xs ++ sources_of (drop n (pins_of (m.shape kind))) (pins_in rest) ≡ all) where
-  asked_pin : (o : Option SignalType) → o ≡ pin_type_of m kind k → slice_get (pins_of (m.shape kind)) n ≡ o
-  asked_pin o e = sym (e ∙ pin_nth m kind k ∙ ap (slice_get (pins_of (m.shape kind))) k_is)
+module _ (m : Meaning) (kind : ℕ) (pins : List (List ℕ)) (all : List Source) where
+  -- these sources, and what the pins from one on give, are all
+  abbrev pub SourcesLeft : List Source → ℕ → Type 0
+  SourcesLeft xs n = xs ++ sources_of (drop n (pins_of (m.shape kind))) (map pin_of (drop n pins)) ≡ all
 
-  pub pin_more : (t : SignalType) (x : Source) (n' : ℕ) (xs' : List Source) → Some t ≡ pin_type_of m kind k → 5 ≤ length rest → x ≡ source_of t (front_pin rest) → n' ≡ n + 1 → xs' ≡ xs ++ x ∷ []
-      → xs' ++ sources_of (drop n' (pins_of (m.shape kind))) (pins_in (take (length rest - 5) (drop 5 rest))) ≡ all
-  pin_more t x n' xs' e l x_is n'_is xs'_is =
-      let ts = pins_of (m.shape kind) in
-      let next = sym (drop_next ts n t (asked_pin (Some t) e)) in
-      let pins = sym (pins_front rest l) in
-      (λ i. xs'_is i ++ sources_of (drop (n'_is i) ts) (pins_in (take_rest rest 5 i)))
-      ∙ append_assoc xs (x ∷ []) (sources_of (drop (n + 1) ts) (pins_in (drop 5 rest)))
-      ∙ ap (λ y. xs ++ y ∷ sources_of (drop (n + 1) ts) (pins_in (drop 5 rest))) x_is
-      ∙ (λ i. xs ++ sources_of (next i) (pins i))
-      ∙ inv
+  module _ (n : ℕ) (xs : List Source) (left : SourcesLeft xs n) where
+    asked_pin : (o : Option SignalType) → o ≡ pin_type_of m kind n → slice_get (pins_of (m.shape kind)) n ≡ o
+    asked_pin o e = sym (e ∙ pin_nth m kind n)
 
-  pub pins_out : None ≡ pin_type_of m kind k → xs ≡ all
-  pins_out e =
-      let ts = pins_of (m.shape kind) in
-      let over = drop_all n ts (nth_none ts n (asked_pin None e)) in
-      sym (append-nil xs) ∙ ap (λ us. xs ++ sources_of us (pins_in rest)) (sym over) ∙ inv
+    pub pin_more : (pin d : List ℕ) → pin ≡ get_or pins n d → n < length pins → (t : SignalType) → Some t ≡ pin_type_of m kind n → (x : Source) → x ≡ source_of t (pin_of pin)
+        → (xs' : List Source) → xs' ≡ xs ++ x ∷ [] → SourcesLeft xs' (n + 1)
+    pin_more pin d pin_is within t e x x_is xs' xs'_is =
+        let ts = pins_of (m.shape kind) in
+        let next = sym (drop_next ts n t (asked_pin (Some t) e)) in
+        let five = sym (next_five pins n d within) in
+        ap (λ ys. ys ++ sources_of (drop (n + 1) ts) (map pin_of (drop (n + 1) pins))) xs'_is
+        ∙ append_assoc xs (x ∷ []) (sources_of (drop (n + 1) ts) (map pin_of (drop (n + 1) pins)))
+        ∙ ap (λ y. xs ++ y ∷ sources_of (drop (n + 1) ts) (map pin_of (drop (n + 1) pins))) (x_is ∙ ap (λ p. source_of t (pin_of p)) pin_is)
+        ∙ (λ i. xs ++ sources_of (next i) (map pin_of (five i)))
+        ∙ left
 
--- fewer than five bytes are left
-pub pins_end : (ts : List SignalType) (rest : List ℕ) (xs all : List Source) → xs ++ sources_of ts (pins_in rest) ≡ all → length rest < 5 → xs ≡ all
-pins_end ts rest xs all inv l = sym (append-nil xs) ∙ ap (λ ys. xs ++ ys) (sym (ap (sources_of ts) (pins_short rest l) ∙ no_sources ts)) ∙ inv
+    pub pins_out : None ≡ pin_type_of m kind n → xs ≡ all
+    pins_out e =
+        let ts = pins_of (m.shape kind) in
+        let over = drop_all n ts (nth_none ts n (asked_pin None e)) in
+        sym (append-nil xs) ∙ ap (λ us. xs ++ sources_of us (map pin_of (drop n pins))) (sym over) ∙ left
+
+    pub pins_end : length pins ≤ n → xs ≡ all
+    pins_end l =
+        let ts = drop n (pins_of (m.shape kind)) in
+        sym (append-nil xs) ∙ ap (λ ys. xs ++ ys) (sym (ap (λ ps. sources_of ts (map pin_of ps)) (drop_all n pins l) ∙ no_sources ts)) ∙ left
+
+pub pins_start : (m : Meaning) (kind : ℕ) (body : List ℕ) (pins : List (List ℕ)) → pins ≡ first_chunks 5 (length body / 5) body → (xs : List Source) → xs ≡ [] → SourcesLeft m kind pins (sources_in m kind body) xs 0
+pins_start m kind body pins p xs e = ap (λ ys. ys ++ sources_of (pins_of (m.shape kind)) (map pin_of pins)) e ∙ ap (sources_of (pins_of (m.shape kind))) (sym (pins_by_fives body pins p))

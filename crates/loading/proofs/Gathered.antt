@@ -57,10 +57,11 @@ module _ (shapes : Shapes) (limit : ℕ) (chart : List ℕ) where
   behind_none (Ok ts) = refl
   behind_none (Err f) = refl
 
-  pub gathered_none : (kinds : List ℕ) → kinds ≡ [] → Gathered kinds None 0 chart
+  pub gathered_none : (kinds : List ℕ) → kinds ≡ [] → Gathered kinds None (length chart - length chart) chart
   gathered_none kinds e =
       let l : 0 + length chart ≡ length chart = omega arith in
-      ([], behind_none (walk_one shapes limit nothing_met 0 0 chart) ∙ ap (λ ks. behind [] (walk_one shapes limit (met_by ks None) 0 0 chart)) (sym e), sym e, l)
+      let z : 0 ≡ length chart - length chart = omega arith in
+      subst (λ p. Gathered kinds None p chart) z ([], behind_none (walk_one shapes limit nothing_met 0 0 chart) ∙ ap (λ ks. behind [] (walk_one shapes limit (met_by ks None) 0 0 chart)) (sym e), sym e, l)
 
   -- a record that fails is the chart's fault
   gathered_fault : (kinds : List ℕ) (last : Option ℕ) (at kind : ℕ) (rest : List ℕ) (n : ℕ) → Gathered kinds last at (kind ∷ rest)
@@ -91,34 +92,32 @@ module _ (shapes : Shapes) (limit : ℕ) (chart : List ℕ) where
       (h.0 ++ r ∷ [], walk, kinds_push h.0 r ∙ ap (λ ks. with_kind ks kind) h.2, all)
 
   -- a turn of the loop: the blocks are counted, the record's kind is the first byte of the rest
-  module _ (kinds : List ℕ) (last : Option ℕ) (at : ℕ) (rest : List ℕ) (h : Gathered kinds last at rest) (some : 1 ≤ length rest)
-      (blocks : ℕ) (counted : blocks ≡ length kinds) (o : Option ℕ) (known : o ≡ body_length shapes (get_or rest 0 0)) where
+  module _ (kinds : List ℕ) (last : Option ℕ) (at : ℕ) (rest : List ℕ) (h : Gathered kinds last at rest) (some : 1 ≤ length rest) (blocks : ℕ) (counted : blocks ≡ length kinds) where
     opened : Gathered kinds last at (get_or rest 0 0 ∷ behind_first rest)
     opened = subst (Gathered kinds last at) (first_and_rest rest some) h
 
-    tested : fault_one limit (record { blocks = blocks; last = last }) (get_or rest 0 0) (behind_first rest) o ≡ fault_one limit (met_by kinds last) (get_or rest 0 0) (behind_first rest) (body_length shapes (get_or rest 0 0))
-    tested i = fault_one limit (record { blocks = counted i; last = last }) (get_or rest 0 0) (behind_first rest) (known i)
+    abbrev pub Tested : Option ℕ
+    Tested = fault_one limit (record { blocks = blocks; last = last }) (get_or rest 0 0) (behind_first rest) (body_length shapes (get_or rest 0 0))
 
-    pub turn_fails : (n : ℕ) → Some n ≡ fault_one limit (record { blocks = blocks; last = last }) (get_or rest 0 0) (behind_first rest) o → load shapes limit chart ≡ Err (n, at)
+    tested : Tested ≡ fault_one limit (met_by kinds last) (get_or rest 0 0) (behind_first rest) (body_length shapes (get_or rest 0 0))
+    tested i = fault_one limit (record { blocks = counted i; last = last }) (get_or rest 0 0) (behind_first rest) (body_length shapes (get_or rest 0 0))
+
+    pub turn_fails : (n : ℕ) → Some n ≡ Tested → load shapes limit chart ≡ Err (n, at)
     turn_fails n e = gathered_fault kinds last at (get_or rest 0 0) (behind_first rest) n opened (e ∙ tested)
 
-    pub turn_fits : None ≡ fault_one limit (record { blocks = blocks; last = last }) (get_or rest 0 0) (behind_first rest) o → (n : ℕ) → n ≡ unwrap_or o 0 → at + (1 + n) ≤ length chart
-    turn_fits e n q =
-        let fits = whole_behind limit (met_by kinds last) (get_or rest 0 0) (behind_first rest) (body_length shapes (get_or rest 0 0)) (e ∙ tested) in
-        let same : n ≡ unwrap_or (body_length shapes (get_or rest 0 0)) 0 = q ∙ ap (λ p. unwrap_or p 0) known in
-        let long = opened.3 in
-        omega arith
-
-    pub turn_passes : None ≡ fault_one limit (record { blocks = blocks; last = last }) (get_or rest 0 0) (behind_first rest) o → (n : ℕ) → n ≡ unwrap_or o 0
-        → (kinds' : List ℕ) → kinds' ≡ with_kind kinds (get_or rest 0 0) → (last' : Option ℕ) → last' ≡ last_behind last (get_or rest 0 0) (behind_first rest)
-        → Gathered kinds' last' (at + (1 + n)) (take (length (behind_first rest) - n) (drop n (behind_first rest)))
-    turn_passes e n q kinds' k last' l =
+    pub turn_passes : None ≡ Tested → (n : ℕ) → body_length shapes (get_or rest 0 0) ≡ Some n → (kinds' : List ℕ) → kinds' ≡ with_kind kinds (get_or rest 0 0)
+        → (last' : Option ℕ) → last' ≡ last_behind last (get_or rest 0 0) (behind_first rest) → (rest' : List ℕ) → rest' ≡ take (length (behind_first rest) - n) (drop n (behind_first rest))
+        → Gathered kinds' last' (length chart - length rest') rest'
+    turn_passes e n size kinds' k last' l rest' r =
         let next = gathered_more kinds last at (get_or rest 0 0) (behind_first rest) opened (e ∙ tested) in
-        let same : unwrap_or (body_length shapes (get_or rest 0 0)) 0 ≡ n = sym (q ∙ ap (λ p. unwrap_or p 0) known) in
+        let same : unwrap_or (body_length shapes (get_or rest 0 0)) 0 ≡ n = ap (λ p. unwrap_or p 0) size in
         let moved = subst (λ m. Gathered (with_kind kinds (get_or rest 0 0)) (last_behind last (get_or rest 0 0) (behind_first rest)) (at + (1 + m)) (drop m (behind_first rest))) same next in
         let kept = subst (λ ks. Gathered ks (last_behind last (get_or rest 0 0) (behind_first rest)) (at + (1 + n)) (drop n (behind_first rest))) (sym k) moved in
-        let known_last = subst (λ t. Gathered kinds' t (at + (1 + n)) (drop n (behind_first rest))) (sym l) kept in
-        subst (Gathered kinds' last' (at + (1 + n))) (sym (take_rest (behind_first rest) n)) known_last
+        let known = subst (λ t. Gathered kinds' t (at + (1 + n)) (drop n (behind_first rest))) (sym l) kept in
+        let left : Gathered kinds' last' (at + (1 + n)) rest' = subst (Gathered kinds' last' (at + (1 + n))) (sym (r ∙ take_rest (behind_first rest) n)) known in
+        let long = left.3 in
+        let place : at + (1 + n) ≡ length chart - length rest' = omega arith in
+        subst (λ p. Gathered kinds' last' p rest') place left
 
   -- at the end the gathered records are the chart's
   pub gathered_all : (kinds : List ℕ) (last : Option ℕ) (at : ℕ) (rest : List ℕ) (h : Gathered kinds last at rest) → length rest ≤ 0 → walk_one shapes limit nothing_met 0 0 chart ≡ Ok h.0

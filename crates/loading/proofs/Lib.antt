@@ -1,8 +1,10 @@
+pub mod Looks
 pub mod Apart
-pub mod Sizes
+pub mod Refusing
 pub mod Gathered
-pub mod Pins
 pub mod Records
+pub mod Pins
+pub mod Walking
 pub mod Answering
 pub mod BlockParts
 pub mod Building

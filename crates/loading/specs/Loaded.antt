@@ -1,5 +1,5 @@
 -- What load answers. Assumes nothing.
-use Rattle.std.specs.Prelude.{◌≡◌, ℕ, ◌≤◌, List, length, Some, None, Ok, Err, vec_items, Option, Result, Vec}
+use Rattle.std.specs.Prelude.{◌≡◌, ℕ, ◌≤◌, List, length, Ok, Err, vec_items, Result, Vec}
 use Rattle.std.specs.declared.alloc.Global.{Global}
 use Rattle.blocks.specs.Meanings.{Meaning}
 use Rattle.charts.specs.Pages.{block_limit}
@@ -8,7 +8,6 @@ use Rattle.charts.specs.Loading as Loading
 use Rattle.charts.specs.Soundness.{Sound}
 use Rattle.charts.specs.Faults.{FirstFault}
 use Rattle.charts.specs.Boxes.{made}
-use Rattle.loading.specs.declared.fault.Fault.{Fault}
 use Rattle.loading.specs.declared.fault.LoadError.{LoadError}
 use Rattle.loading.specs.declared.page.Page.{Page}
 use Rattle.loading.specs.FaultNumbers.{fault_number}
@@ -26,20 +25,9 @@ Means m chart (Ok p) = Sound m.shape block_limit (page_model p) × (written (pag
 Means m chart (Err (LoadError.Refused f place)) = FirstFault m.shape block_limit chart (fault_number f, place)
 Means m chart (Err LoadError.Memory) = Unit {0}
 
--- ---- the two walks
-
 -- walk one: the kinds of the blocks among the chart's records, of which there are some; or the chart's fault
 abbrev pub WalkedOne : Meaning → List ℕ → Result (Vec ℕ Global) LoadError → Type 0
 WalkedOne m chart (Ok ks) =
     (rs : List Loading.Raw) × (Loading.walk_one m.shape block_limit Loading.nothing_met 0 0 chart ≡ Ok rs) × (Loading.kinds_in rs ≡ vec_items ks) × (1 ≤ length (vec_items ks))
 WalkedOne m chart (Err (LoadError.Refused f place)) = Loading.load m.shape block_limit chart ≡ Err (fault_number f, place)
 WalkedOne m chart (Err LoadError.Memory) = Unit {0}
-
--- a fault of walk two, by number and place
-abbrev pub numbered_fault : Fault × ℕ → Loading.Fault
-numbered_fault f = (fault_number f.0, f.1)
-
--- a fault that was found refuses the chart
-abbrev pub refusal_of : Option (Fault × ℕ) → Result (Unit {0}) LoadError
-refusal_of None = Ok tt
-refusal_of (Some f) = Err (LoadError.Refused f.0 f.1)

@@ -1,14 +1,15 @@
 // The page of a chart without a fault.
-ghost use Rattle.std.specs.Prelude.{◌≡◌, List, [], ◌∷◌, ◌++◌, length, IfOk, Some, Ok, OnOk, slice_index};
+ghost use Rattle.std.specs.Prelude.{◌≡◌, List, [], ◌∷◌, ◌++◌, length, IfOk, Some, Ok, OnOk};
 ghost use Rattle.charts.specs.Boxes.{starting};
-ghost use Rattle.charts.specs.Loading.{Raw, nothing_met, walk_one, body_length, output_in, source_of};
+ghost use Rattle.charts.specs.Loading.{Raw, nothing_met, walk_one, body_length, source_of};
 ghost use Rattle.charts.specs.Pages.{block_limit};
 ghost use Rattle.loading.specs.Built.{sources_in, BuiltBlock, Built};
+ghost use Rattle.loading.specs.Walks.{pin_of};
 
 use crate::page::{Block, Page};
-use crate::walk_one::body_length;
+use crate::record::{Record, output_record, split_record};
 use blocks::Library;
-use charts::{OutputRecord, Source};
+use charts::Source;
 use signals::coding::decode;
 use signals::{Signal, SignalType};
 use std::alloc::{AllocError, Global};
@@ -22,16 +23,9 @@ pub(crate) fn build<L: Library>(heap: Global, library: &L, chart: &[u8]) -> Resu
         outputs: Vec::new(heap),
     };
     let mut rest = chart;
-    while let [kind, after @ ..] = rest {
-        let Some(size) = body_length(library, *kind) else {
-            break;
-        };
-        if after.len() < size {
-            break;
-        }
-        let (body, more) = after.split_at(size);
-        add_record(heap, library, &mut page, *kind, body)?;
-        rest = more;
+    while let Some((found, behind)) = split_record(library, rest) {
+        add_record(heap, library, &mut page, &found)?;
+        rest = behind;
     }
     Ok(page)
 }
@@ -41,81 +35,62 @@ fn add_record<L: Library>(
     heap: Global,
     library: &L,
     page: &mut Page,
-    kind: u8,
-    body: &[u8],
+    found: &Record<'_>,
 ) -> Result<(), AllocError>
-    requires { body_length (L.Library.meaning library.now).shape kind ≡ Some (length body.now) }
-    ensures { (rs : List Raw) → Built (L.Library.meaning library.now) rs page.old → OnOk result (Built (L.Library.meaning library.now) (rs ++ record { kind = kind; body = body.now } ∷ []) page.new) }
+    requires { body_length (L.Library.meaning library.now).shape found.now.kind ≡ Some (length found.now.body.now) }
+    ensures { (rs : List Raw) → Built (L.Library.meaning library.now) rs page.old → OnOk result (Built (L.Library.meaning library.now) (rs ++ record { kind = found.now.kind; body = found.now.body.now } ∷ []) page.new) }
 {
-    if kind == 0 {
-        if let Some(record) = read_output(body) {
-            page.outputs.push(record)?;
-        }
+    if found.kind == 0 {
+        page.outputs.push(output_record(found.body))?;
     } else {
-        page.blocks.push(read_block(heap, library, kind, body)?)?;
+        page.blocks.push(read_block(heap, library, found)?)?;
     }
     Ok(())
-}
-
-// The terminal, the block and the output of an output record.
-fn read_output(body: &[u8]) -> Option<OutputRecord>
-    ensures { length body.now ≡ 3 → result ≡ Some (output_in body.now) }
-{
-    match body {
-        [terminal, block, output] => Some(OutputRecord {
-            terminal: *terminal,
-            block: *block,
-            output: *output,
-        }),
-        _ => None,
-    }
 }
 
 fn read_block<L: Library>(
     heap: Global,
     library: &L,
-    kind: u8,
-    body: &[u8],
+    found: &Record<'_>,
 ) -> Result<Block, AllocError>
-    ensures { IfOk result (BuiltBlock (L.Library.meaning library.now) kind body.now) }
+    ensures { IfOk result (BuiltBlock (L.Library.meaning library.now) found.now.kind found.now.body.now) }
 {
-    let pins = read_pins(heap, library, kind, body)?;
-    let cells = start_cells(heap, library, kind)?;
-    Ok(Block { kind, pins, cells })
+    Ok(Block {
+        kind: found.kind,
+        pins: read_pins(heap, library, found)?,
+        cells: start_cells(heap, library, found.kind)?,
+    })
 }
 
-// A source for each pin of a kind that has its five bytes.
+// A source for each pin of the kind, from its five bytes.
 fn read_pins<L: Library>(
     heap: Global,
     library: &L,
-    kind: u8,
-    body: &[u8],
+    found: &Record<'_>,
 ) -> Result<Vec<Source>, AllocError>
-    ensures { IfOk result (λ pins. pins.items ≡ sources_in (L.Library.meaning library.now) kind body.now) }
+    ensures { IfOk result (λ sources. sources.items ≡ sources_in (L.Library.meaning library.now) found.now.kind found.now.body.now) }
 {
-    let mut pins = Vec::new(heap);
-    let mut rest = body;
-    while let [tag, a, b, c, d, more @ ..] = rest {
-        let Some(signal_type) = library.pin_type(kind, pins.len()) else {
+    let mut sources = Vec::new(heap);
+    let (pins, _) = found.body.as_chunks::<5>();
+    for (number, pin) in pins.iter().enumerate() {
+        let Some(signal_type) = library.pin_type(found.kind, number) else {
             break;
         };
-        pins.push(source_of(signal_type, *tag, [*a, *b, *c, *d]))?;
-        rest = more;
+        sources.push(source_of(signal_type, *pin))?;
     }
-    Ok(pins)
+    Ok(sources)
 }
 
-// The source that a tag and four bytes stand for, at a pin of a type.
-fn source_of(signal_type: SignalType, tag: u8, bytes: [u8; 4]) -> Source
-    ensures { result ≡ source_of signal_type (record { tag = tag; first = slice_index bytes 0; second = slice_index bytes 1; third = slice_index bytes 2; fourth = slice_index bytes 3 }) }
+// The source that five bytes stand for, at a pin of a type.
+fn source_of(signal_type: SignalType, pin: [u8; 5]) -> Source
+    ensures { result ≡ source_of signal_type (pin_of pin) }
 {
-    match tag {
-        0 => Source::Constant(decode(signal_type, bytes).unwrap_or(signal_type.zero())),
-        1 => Source::Terminal(bytes[3]),
-        _ => Source::Output {
-            block: bytes[2],
-            output: bytes[3],
-        },
+    match pin {
+        [0, a, b, c, d] => Source::Constant(decode(signal_type, [a, b, c, d]).unwrap_or(
+            signal_type.zero(),
+        )),
+        [1, _, _, _, terminal] => Source::Terminal(terminal),
+        [_, _, _, block, output] => Source::Output { block, output },
     }
 }
 
@@ -123,6 +98,7 @@ fn start_cells<L: Library>(heap: Global, library: &L, kind: u8) -> Result<Vec<Si
     ensures { IfOk result (λ cells. cells.items ≡ starting (L.Library.meaning library.now) kind) }
 {
     let mut cells = Vec::new(heap);
+    // Kept: asks on until the library has no further cell, since no count of them is known here.
     while let Some(signal) = library.start(kind, cells.len()) {
         cells.push(signal)?;
     }

@@ -1,47 +1,38 @@
 // The faults of a chart, each with its number.
-ghost use Rattle.std.specs.Prelude.{◌≡◌};
+ghost use Rattle.std.specs.Prelude.{◌≡◌, Ok, Err, MatchResult};
 ghost use Rattle.loading.specs.FaultNumbers.{fault_number};
-ghost use Rattle.loading.specs.declared.fault.LoadError.TheVariants.{Memory};
+ghost use Rattle.loading.specs.declared.fault.LoadError.TheVariants.{Refused, Memory};
 
 use std::alloc::{AllocError, AllocFailed};
 
 #[derive(Clone, Copy, Debug, PartialEq, Eq)]
 pub enum Fault {
     // A record is cut short.
-    CutShort,
+    CutShort = 1,
     // A kind has no shape, 0 aside.
-    UnknownKind,
+    UnknownKind = 2,
     // One block more than a page may have.
-    TooManyBlocks,
+    TooManyBlocks = 3,
     // A tag above 2, or a fixed zero byte that is not 0.
-    Malformed,
+    Malformed = 4,
     // A terminal, a block or an output is missing.
-    Missing,
+    Missing = 5,
     // Two types differ.
-    TypesDiffer,
+    TypesDiffer = 6,
     // A constant outside its type, or a REAL that is not clean.
-    UnfitConstant,
+    UnfitConstant = 7,
     // A block after an output record, or terminals that do not rise.
-    OutOfOrder,
+    OutOfOrder = 8,
     // No block.
-    NoBlock,
+    NoBlock = 9,
 }
 
 impl Fault {
+    // Kept as a method: the rules and the docs speak of a fault's number.
     pub fn number(self) -> u8
         ensures { result ≡ fault_number self }
     {
-        match self {
-            Fault::CutShort => 1,
-            Fault::UnknownKind => 2,
-            Fault::TooManyBlocks => 3,
-            Fault::Malformed => 4,
-            Fault::Missing => 5,
-            Fault::TypesDiffer => 6,
-            Fault::UnfitConstant => 7,
-            Fault::OutOfOrder => 8,
-            Fault::NoBlock => 9,
-        }
+        self as u8
     }
 }
 
@@ -54,6 +45,7 @@ pub enum LoadError {
     Memory,
 }
 
+// Kept by hand, one for each error that `?` meets: a derived `From` has no clause, and load's promise names the case.
 impl From<AllocError> for LoadError {
     ghost from_gives = { λ _ error. error ≡ Memory };
 
@@ -68,4 +60,11 @@ impl<T: Drop> From<AllocFailed<T>> for LoadError {
     fn from(_refused: AllocFailed<T>) -> LoadError {
         LoadError::Memory
     }
+}
+
+// A fault that a test finds refuses the chart, by the place of its record.
+pub(crate) fn refuse<T>(tested: Result<T, Fault>, place: usize) -> Result<T, LoadError>
+    ensures { MatchResult tested (λ x. result ≡ Ok x) (λ fault. result ≡ Err (Refused fault place)) }
+{
+    tested.map_err(|fault| LoadError::Refused { fault, place })
 }

@@ -4,7 +4,9 @@
 pub mod build;
 pub mod fault;
 pub mod load;
+pub mod lookup;
 pub mod page;
+mod record;
 mod walk_one;
 mod walk_two;
 

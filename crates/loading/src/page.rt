@@ -11,6 +11,7 @@ pub struct Block {
 }
 
 // Blocks in run order, and the output records.
+// Kept without a model: plain data, whose fields those who load, run, save and trace read and write.
 #[derive(Drop)]
 pub struct Page {
     pub blocks: Vec<Block>,

@@ -1,13 +1,13 @@
 // Walk one: each record for an unknown kind, a cut, a misplaced record and one block too many.
-ghost use Rattle.std.specs.Prelude.{◌≡◌, if◌then◌else◌, Some, MatchResult, slice_index};
-ghost use Rattle.std.specs.Option.{option_map};
+ghost use Rattle.std.specs.Prelude.{◌≡◌, ◌≤◌, if◌then◌else◌, length, Some, IfOk, MatchResult, slice_index};
 ghost use Rattle.charts.specs.Pages.{block_limit};
 ghost use Rattle.charts.specs.Loading.{is_block, body_length, met_output, reached, fault_one};
-ghost use Rattle.loading.specs.FaultNumbers.{fault_number};
+ghost use Rattle.loading.specs.FaultNumbers.{fault_in};
 ghost use Rattle.loading.specs.Loaded.{WalkedOne};
 ghost use Rattle.loading.specs.Walks.{with_kind};
 
-use crate::fault::{Fault, LoadError};
+use crate::fault::{Fault, LoadError, refuse};
+use crate::record::{body_length, byte_at};
 use blocks::Library;
 use std::alloc::Global;
 
@@ -24,49 +24,43 @@ pub(crate) fn walk_one<L: Library>(
 {
     let mut kinds = Vec::new(heap);
     let mut last = None;
-    let mut at = 0;
     let mut rest = chart;
     while let [kind, after @ ..] = rest {
-        let length = body_length(library, *kind);
-        if let Some(fault) = fault_one(length, kinds.len(), last, *kind, after) {
-            return Err(LoadError::Refused { fault, place: at });
-        }
+        let place = chart.len() - rest.len();
+        let length = refuse(measure(library, kinds.len(), last, *kind, after), place)?;
         keep_kind(&mut kinds, *kind)?;
         last = last_terminal(last, *kind, after);
-        let length = length.unwrap_or(0);
-        at += 1 + length;
         rest = &after[length..];
     }
     if kinds.is_empty() {
-        return Err(LoadError::Refused {
-            fault: Fault::NoBlock,
-            place: 0,
-        });
+        return refuse(Err(Fault::NoBlock), 0);
     }
     Ok(kinds)
 }
 
-// The first test of walk one that a record fails, given the blocks before it and the last output terminal.
-fn fault_one(
-    length: Option<usize>,
+// The length of a record's body, or the first test of walk one that the record fails, given the blocks before it and the last output terminal.
+// Kept: kind and bytes go as two, since no record is known before its length is tested, and what the walk has met goes as the two
+// locals that it is; a struct of either would be taken apart here at once.
+fn measure<L: Library>(
+    library: &L,
     blocks: usize,
     last: Option<u8>,
     kind: u8,
     after: &[u8],
-) -> Option<Fault>
-    ensures { option_map fault_number result ≡ fault_one block_limit (record { blocks = blocks; last = last }) kind after.now length }
+) -> Result<usize, Fault>
+    ensures fault { fault_in result ≡ fault_one block_limit (record { blocks = blocks; last = last }) kind after.now (body_length (L.Library.meaning library.now).shape kind) }
+    ensures length { IfOk result (λ n. body_length (L.Library.meaning library.now).shape kind ≡ Some n) }
+    ensures within { IfOk result (λ n. n ≤ length after.now) }
 {
-    let Some(length) = length else {
-        return Some(Fault::UnknownKind);
-    };
+    let length = body_length(library, kind).ok_or(Fault::UnknownKind)?;
     if after.len() < length {
-        Some(Fault::CutShort)
+        Err(Fault::CutShort)
     } else if is_misplaced(last, kind, after) {
-        Some(Fault::OutOfOrder)
+        Err(Fault::OutOfOrder)
     } else if kind != 0 && blocks >= BLOCK_LIMIT {
-        Some(Fault::TooManyBlocks)
+        Err(Fault::TooManyBlocks)
     } else {
-        None
+        Ok(length)
     }
 }
 
@@ -99,24 +93,4 @@ fn last_terminal(last: Option<u8>, kind: u8, after: &[u8]) -> Option<u8>
     } else {
         last
     }
-}
-
-// The length of a kind's body, none for a kind without a shape: an output record has three bytes, a block five a pin.
-pub(crate) fn body_length<L: Library>(library: &L, kind: u8) -> Option<usize>
-    ensures { result ≡ body_length (L.Library.meaning library.now).shape kind }
-{
-    if kind == 0 {
-        return Some(3);
-    }
-    match library.shape(kind) {
-        Some((pins, _, _)) => Some(5 * pins),
-        None => None,
-    }
-}
-
-// The byte at a place, 0 past the end.
-pub(crate) fn byte_at(bytes: &[u8], place: usize) -> u8
-    ensures { result ≡ slice_index bytes.now place }
-{
-    if place < bytes.len() { bytes[place] } else { 0 }
 }

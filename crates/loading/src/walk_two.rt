@@ -1,168 +1,121 @@
 // Walk two: each pin and each output record.
-ghost use Rattle.std.specs.Prelude.{◌≡◌, Some};
-ghost use Rattle.std.specs.Option.{option_map};
+ghost use Rattle.std.specs.Prelude.{◌≡◌};
 ghost use Rattle.signals.specs.Coding.{decoded};
 ghost use Rattle.blocks.specs.Meanings.{pin_type_of};
-ghost use Rattle.charts.specs.Pages.{output_of_kind, wire_type};
-ghost use Rattle.charts.specs.Loading.{output_in, fault_of_type, fault_of_constant, fault_of_pin};
-ghost use Rattle.loading.specs.FaultNumbers.{fault_number};
+ghost use Rattle.charts.specs.Pages.{wire_type};
+ghost use Rattle.charts.specs.Loading.{fault_of_type, fault_of_constant, fault_of_pin};
+ghost use Rattle.loading.specs.FaultNumbers.{fault_in};
 ghost use Rattle.loading.specs.Walks.{WalkedTwo, fault_of_output_record, fault_before_pins, pin_of, fault_at_pin};
 
-use crate::fault::Fault;
-use crate::walk_one::{body_length, byte_at};
+use crate::fault::{Fault, LoadError};
+use crate::lookup::output_type;
+use crate::record::{Record, output_record, split_record};
 use blocks::Library;
-use blocks::list::item;
 use charts::OutputRecord;
 use signals::SignalType;
 use signals::coding::decode;
 use signals::terminals::type_of_terminal;
 
-// The first fault of walk two, record by record and pin by pin, with the offset of its record's first byte.
-pub(crate) fn walk_two<L: Library>(
-    library: &L,
-    kinds: &[u8],
-    chart: &[u8],
-) -> Option<(Fault, usize)>
-    ensures { WalkedTwo (L.Library.meaning library.now) kinds.now chart.now result }
-{
-    let mut found = None;
-    let mut at = 0;
-    let mut rest = chart;
-    'walk: while let [kind, after @ ..] = rest {
-        let length = body_length(library, *kind).unwrap_or(0);
-        let Some((body, next)) = after.split_at_checked(length) else {
-            break 'walk;
-        };
-        if let Some(fault) = fault_before_pins(library, kinds, *kind, body) {
-            found = Some((fault, at));
-            break 'walk;
-        }
-        let mut pin = 0;
-        let mut pins = body;
-        while let [tag, a, b, c, d, more @ ..] = pins {
-            if let Some(fault) = fault_at_pin(library, kinds, *kind, pin, *tag, [*a, *b, *c, *d]) {
-                found = Some((fault, at));
+// What a wire may come from: the kinds of the chart's blocks in their order, and the library that knows the kinds.
+#[derive(Drop)]
+pub(crate) struct Wiring<'a, L> {
+    pub(crate) library: &'a L,
+    pub(crate) kinds: &'a [u8],
+}
+
+impl<L: Library> Wiring<'_, L> {
+    // Refuses a chart for the first fault of walk two, record by record and pin by pin.
+    pub(crate) fn walk_two(&self, chart: &[u8]) -> Result<(), LoadError>
+        ensures { WalkedTwo (L.Library.meaning self.now.library.now) self.now.kinds.now chart.now result }
+    {
+        let mut tested = Ok(());
+        let mut rest = chart;
+        // Kept: both loops are left by a label at the first fault, a rule of the project.
+        'walk: while let Some((found, behind)) = split_record(self.library, rest) {
+            let place = chart.len() - rest.len();
+            if let Err(fault) = self.test_output(&found) {
+                tested = Err(LoadError::Refused { fault, place });
                 break 'walk;
             }
-            pin += 1;
-            pins = more;
+            let (pins, _) = found.body.as_chunks::<5>();
+            for (number, pin) in pins.iter().enumerate() {
+                if let Err(fault) = self.test_pin(found.kind, number, *pin) {
+                    tested = Err(LoadError::Refused { fault, place });
+                    break 'walk;
+                }
+            }
+            rest = behind;
         }
-        at += 1 + length;
-        rest = next;
+        tested
     }
-    found
+
+    // An output record is tested before any pins; of a block nothing is.
+    fn test_output(&self, found: &Record<'_>) -> Result<(), Fault>
+        ensures { fault_in result ≡ fault_before_pins (L.Library.meaning self.now.library.now).shape self.now.kinds.now found.now.kind found.now.body.now }
+    {
+        if found.kind == 0 {
+            self.test_output_record(output_record(found.body))
+        } else {
+            Ok(())
+        }
+    }
+
+    // The terminal, the block and the output are there, and the two types are one.
+    fn test_output_record(&self, found: OutputRecord) -> Result<(), Fault>
+        ensures { fault_in result ≡ fault_of_output_record (L.Library.meaning self.now.library.now).shape self.now.kinds.now found }
+    {
+        let wanted = type_of_terminal(found.terminal).ok_or(Fault::Missing)?;
+        test_type(wanted, self.output_type(found.block, found.output))
+    }
+
+    // A pin by its number; past the pins of the kind nothing is tested.
+    fn test_pin(&self, kind: u8, number: usize, pin: [u8; 5]) -> Result<(), Fault>
+        ensures { fault_in result ≡ fault_at_pin (L.Library.meaning self.now.library.now).shape self.now.kinds.now (pin_type_of (L.Library.meaning self.now.library.now) kind number) (pin_of pin) }
+    {
+        match self.library.pin_type(kind, number) {
+            Some(wanted) => self.test_source(wanted, pin),
+            None => Ok(()),
+        }
+    }
+
+    // What a pin of a type takes its signal from.
+    fn test_source(&self, wanted: SignalType, pin: [u8; 5]) -> Result<(), Fault>
+        ensures { fault_in result ≡ fault_of_pin (L.Library.meaning self.now.library.now).shape self.now.kinds.now wanted (pin_of pin) }
+    {
+        match pin {
+            [0, a, b, c, d] => test_constant(wanted, [a, b, c, d]),
+            [1, 0, 0, 0, terminal] => test_type(wanted, type_of_terminal(terminal)),
+            [2, 0, 0, block, output] => test_type(wanted, self.output_type(block, output)),
+            _ => Err(Fault::Malformed),
+        }
+    }
+
+    // The type of an output of a block, none where the block or the output is missing.
+    fn output_type(&self, block: u8, output: u8) -> Option<SignalType>
+        ensures { result ≡ wire_type (L.Library.meaning self.now.library.now).shape self.now.kinds.now block output }
+    {
+        let kind = self.kinds.get(usize::from(block)).copied()?;
+        output_type(self.library, kind, output)
+    }
 }
 
-// The fault of an output record; none for a block.
-fn fault_before_pins<L: Library>(library: &L, kinds: &[u8], kind: u8, body: &[u8]) -> Option<Fault>
-    ensures { option_map fault_number result ≡ fault_before_pins (L.Library.meaning library.now).shape kinds.now kind body.now }
+// A constant is within its type, and a REAL is clean.
+fn test_constant(wanted: SignalType, bytes: [u8; 4]) -> Result<(), Fault>
+    ensures { fault_in result ≡ fault_of_constant (decoded wanted bytes) }
 {
-    if kind == 0 {
-        fault_of_output(library, kinds, output_record(body))
-    } else {
-        None
+    match decode(wanted, bytes) {
+        Some(signal) if signal.is_clean() => Ok(()),
+        _ => Err(Fault::UnfitConstant),
     }
 }
 
-// The output record of a body.
-pub(crate) fn output_record(body: &[u8]) -> OutputRecord
-    ensures { result ≡ output_in body.now }
-{
-    OutputRecord {
-        terminal: byte_at(body, 0),
-        block: byte_at(body, 1),
-        output: byte_at(body, 2),
-    }
-}
-
-// Whether the terminal, the block and the output are there, and the two types are one.
-fn fault_of_output<L: Library>(library: &L, kinds: &[u8], record: OutputRecord) -> Option<Fault>
-    ensures { option_map fault_number result ≡ fault_of_output_record (L.Library.meaning library.now).shape kinds.now «record» }
-{
-    match type_of_terminal(record.terminal) {
-        Some(signal_type) => fault_of_type(
-            signal_type,
-            wire_type(library, kinds, record.block, record.output),
-        ),
-        None => Some(Fault::Missing),
-    }
-}
-
-// The fault of a pin by its place; none past the pins of the kind.
-fn fault_at_pin<L: Library>(
-    library: &L,
-    kinds: &[u8],
-    kind: u8,
-    pin: usize,
-    tag: u8,
-    bytes: [u8; 4],
-) -> Option<Fault>
-    ensures { option_map fault_number result ≡ fault_at_pin (L.Library.meaning library.now).shape kinds.now (pin_type_of (L.Library.meaning library.now) kind pin) (pin_of tag bytes) }
-{
-    match library.pin_type(kind, pin) {
-        Some(signal_type) => fault_of_pin(library, kinds, signal_type, tag, bytes),
-        None => None,
-    }
-}
-
-// The first test that a pin of a type fails.
-fn fault_of_pin<L: Library>(
-    library: &L,
-    kinds: &[u8],
-    signal_type: SignalType,
-    tag: u8,
-    bytes: [u8; 4],
-) -> Option<Fault>
-    ensures { option_map fault_number result ≡ fault_of_pin (L.Library.meaning library.now).shape kinds.now signal_type (pin_of tag bytes) }
-{
-    match (tag, bytes) {
-        (0, _) => fault_of_constant(signal_type, bytes),
-        (1, [0, 0, 0, terminal]) => fault_of_type(signal_type, type_of_terminal(terminal)),
-        (2, [0, 0, block, output]) => fault_of_type(
-            signal_type,
-            wire_type(library, kinds, block, output),
-        ),
-        _ => Some(Fault::Malformed),
-    }
-}
-
-// A constant outside its type, or a REAL that is not clean.
-fn fault_of_constant(signal_type: SignalType, bytes: [u8; 4]) -> Option<Fault>
-    ensures { option_map fault_number result ≡ fault_of_constant (decoded signal_type bytes) }
-{
-    match decode(signal_type, bytes) {
-        Some(signal) if signal.is_clean() => None,
-        _ => Some(Fault::UnfitConstant),
-    }
-}
-
-// What is missing, or has another type.
-fn fault_of_type(wanted: SignalType, found: Option<SignalType>) -> Option<Fault>
-    ensures { option_map fault_number result ≡ fault_of_type wanted found }
+// What is wired is there, and has the type that is wanted.
+fn test_type(wanted: SignalType, found: Option<SignalType>) -> Result<(), Fault>
+    ensures { fault_in result ≡ fault_of_type wanted found }
 {
     match found {
-        Some(signal_type) if signal_type == wanted => None,
-        Some(_) => Some(Fault::TypesDiffer),
-        None => Some(Fault::Missing),
-    }
-}
-
-// The type of an output of a block, none where the block or the output is missing.
-fn wire_type<L: Library>(library: &L, kinds: &[u8], block: u8, output: u8) -> Option<SignalType>
-    ensures { result ≡ wire_type (L.Library.meaning library.now).shape kinds.now block output }
-{
-    let kind = item(kinds, usize::from(block))?;
-    output_type(library, kind, usize::from(output))
-}
-
-// The type of an output of a kind; hidden cells are no outputs.
-fn output_type<L: Library>(library: &L, kind: u8, output: usize) -> Option<SignalType>
-    ensures { result ≡ output_of_kind (L.Library.meaning library.now).shape (Some kind) output }
-{
-    let (_, _, outputs) = library.shape(kind)?;
-    if output < outputs {
-        library.cell_type(kind, output)
-    } else {
-        None
+        Some(signal_type) if signal_type == wanted => Ok(()),
+        Some(_) => Err(Fault::TypesDiffer),
+        None => Err(Fault::Missing),
     }
 }

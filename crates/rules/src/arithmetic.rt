@@ -17,6 +17,7 @@ pub fn add_d(x1: i32, x2: i32) -> i32
 }
 
 /// What DIV_D gives: Y, MOD and QF.
+// Kept as a flag beside a number: QF is an output of the block, and Y holds a number beside a raised QF too.
 #[derive(Clone, Copy)]
 pub struct Divided {
     pub y: i32,

@@ -12,6 +12,7 @@ pub fn i_r(x: i16) -> f32
 }
 
 /// What R_D gives: Y and QF.
+// Kept as a flag beside a number, as in DIV_D: both are outputs of the block.
 #[derive(Clone, Copy)]
 pub struct Whole {
     pub y: i32,

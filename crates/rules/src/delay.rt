@@ -3,6 +3,7 @@ ghost use Rattle.rules.specs.Delay.{delayed};
 ghost use Rattle.std.specs.Prelude.{◌≡◌};
 
 /// What PDE gives: Q, and in N the cycles that I has been 1.
+// Kept as a flag beside a number: both are cells of the block, and N counts on while Q is 0.
 #[derive(Clone, Copy)]
 pub struct Delayed {
     pub q: bool,

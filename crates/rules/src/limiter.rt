@@ -4,6 +4,8 @@ ghost use Rattle.std.specs.Float.Ieee.{lt};
 ghost use Rattle.std.specs.Prelude.{◌≡◌, Bool, int_lt};
 
 /// A type whose values can tell the smaller.
+// Kept beside std's `PartialOrd`: its `<` is stated by each type's order, and three lemmas would have to tie that to the `<` of the
+// rules, in place of three lines here.
 pub trait Smaller {
     ghost smaller: { Self → Self → Bool };
 
@@ -37,6 +39,7 @@ impl Smaller for f32 {
 }
 
 /// What the limiter gives: Y, QU and QL.
+// Kept as flags beside a number: all three are outputs of the block.
 #[derive(Clone, Copy)]
 pub struct Limited<T> {
     pub y: T,

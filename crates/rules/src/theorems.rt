@@ -3,15 +3,11 @@ ghost use Rattle.rules.specs.Conversion.{IntKept};
 ghost use Rattle.rules.specs.Examples.{Examples};
 
 /// The worked examples hold.
-pub fn examples_hold() -> u8
+pub fn examples_hold()
     ensures { Examples }
-{
-    0
-}
+{}
 
 /// I_R keeps the number of every INT.
-pub fn int_is_kept() -> u8
+pub fn int_is_kept()
     ensures { IntKept }
-{
-    0
-}
+{}

@@ -1,3 +1,4 @@
+pub mod NewCells
 pub mod Turning
 pub mod Starting
 pub mod Zeros

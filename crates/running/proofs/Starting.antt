@@ -1,8 +1,8 @@
 -- Starting cells laid over old ones, one after the other. Assumes nothing.
-use Rattle.std.proofs.Common.{◌≡◌, ℕ, zero, suc, ◌+◌, ◌<◌, List, [], ◌∷◌, length, get_or, take, set, Some, None, vec_items, Option, unwrap_or, sym, refl, ap, ◌∙◌, add-one, arith}
+use Rattle.std.proofs.Common.{◌≡◌, ℕ, zero, suc, ◌+◌, ◌<◌, List, [], ◌∷◌, length, get_or, take, set, Some, None, vec_items, Option, unwrap_or, sym, refl, ap, ◌∙◌, add-one}
 use Rattle.std.specs.List.{slice_get}
 use Rattle.std.specs.Vec.{with_items}
-use Rattle.std.proofs.lemmas.List.{set-get_or, get_or-map, map-set, with_items_is}
+use Rattle.std.proofs.lemmas.List.{set-get_or}
 use Rattle.signals.specs.declared.signal.Signal.{Signal}
 use Rattle.blocks.specs.Meanings.{Shape, Meaning, with_shape, start_of}
 use Rattle.charts.specs.Pages.{Block}
@@ -10,9 +10,8 @@ use Rattle.charts.specs.Boxes.{Cells, starting_as, starting, laid, restarted_cel
 use Rattle.charts.proofs.Places.{none_some}
 use Rattle.loading.specs.declared.page.Block as Memory
 use Rattle.loading.specs.declared.page.Page.{Page}
-use Rattle.loading.specs.Models.{block_model, page_model, cells_model}
-use Rattle.running.specs.Turns.{wiring, all_cells}
-use Rattle.running.proofs.Turning.{wired_at}
+use Rattle.loading.specs.Models.{block_model, page_model, cells_model, wiring, all_cells}
+use Rattle.running.proofs.NewCells.{lent_back, with_cells, wired_at, old_row, new_row}
 
 -- what the library answers for a cell is the starting cell there
 start_at : (m : Meaning) (k i : ℕ) → start_of m k i ≡ slice_get (starting m k) i
@@ -54,23 +53,23 @@ restarted_suc m (x ∷ xs) [] (suc i) b at = refl
 restarted_suc m (x ∷ xs) (c ∷ cs) zero b at = let same : b ≡ x = cc in ap (λ k. laid (starting m k.kind) c ∷ cs) same
 restarted_suc m (x ∷ xs) (c ∷ cs) (suc i) b at = ap (λ rows. laid (starting m x.kind) c ∷ rows) (restarted_suc m xs cs i b at)
 
--- block i of bs is restarted, and is y then, where those before it were restarted from old
-pub restarted_more : (m : Meaning) (old bs : List Memory.Block) (i : ℕ) (d y : Memory.Block) → i < length bs → wiring bs ≡ wiring old
-    → all_cells bs ≡ restarted_cells m (take i (wiring old)) (all_cells old) → vec_items y.cells ≡ laid (starting m (get_or bs i d).kind) (vec_items (get_or bs i d).cells)
-    → all_cells (set bs i y) ≡ restarted_cells m (take (i + 1) (wiring old)) (all_cells old)
-restarted_more m old bs i d y lt wired rows new =
+-- block i of bs is restarted, and has the cells xs then, where those before it were restarted from old
+pub restarted_more : (m : Meaning) (old bs : List Memory.Block) (i : ℕ) (d : Memory.Block) (xs : List Signal) → i < length bs → wiring bs ≡ wiring old
+    → all_cells bs ≡ restarted_cells m (take i (wiring old)) (all_cells old) → length xs ≡ length (vec_items (get_or bs i d).cells)
+    → xs ≡ laid (starting m (get_or bs i d).kind) (vec_items (get_or bs i d).cells)
+    → all_cells (set bs i (with_cells (get_or bs i d) xs)) ≡ restarted_cells m (take (i + 1) (wiring old)) (all_cells old)
+restarted_more m old bs i d xs lt wired rows long new =
     let start = starting m (get_or bs i d).kind in
-    let before = get_or-map (λ (x : Memory.Block). vec_items x.cells) bs i d [] lt in
-    map-set (λ (x : Memory.Block). vec_items x.cells) bs i y
-    ∙ ap (set (all_cells bs) i) (new ∙ ap (laid start) (sym before))
+    new_row bs i d lt xs long
+    ∙ ap (set (all_cells bs) i) (new ∙ ap (laid start) (sym (old_row bs i d lt)))
     ∙ ap (λ (cs : Cells). set cs i (laid start (get_or cs i []))) rows
     ∙ restarted_suc m (wiring old) (all_cells old) i (block_model (get_or bs i d)) (ap (λ ws. slice_get ws i) (sym wired) ∙ wired_at bs i d lt)
     ∙ ap (λ n. restarted_cells m (take n (wiring old)) (all_cells old)) (sym (add-one i))
 
 -- the blocks lent out of a page come back restarted
 module _ (m : Meaning) (p : Page) (lent new : List Memory.Block) (whole : lent ≡ vec_items p.blocks) (long : length new ≡ length lent) where
-  back : vec_items (with_items p.blocks new) ≡ new
-  back = let room = p.blocks.ok.0 in with_items_is p.blocks new (omega (arith, ap length whole))
+  abbrev back : vec_items (with_items p.blocks new) ≡ new
+  back = lent_back p lent new whole long
 
   pub restarted_page : wiring new ≡ wiring lent → page_model (record { blocks = with_items p.blocks new; outputs = p.outputs }) ≡ page_model p
   restarted_page same = ap (λ ws. record { blocks = ws; outputs = vec_items p.outputs }) (ap wiring back ∙ same ∙ ap wiring whole)

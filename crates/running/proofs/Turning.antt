@@ -1,20 +1,19 @@
 -- A turn of a block in memory: kinds and sources stay, and its cells become what the rule says. Assumes nothing.
-use Rattle.std.proofs.Common.{◌≡◌, ℕ, zero, suc, ◌+◌, ◌-◌, ◌<◌, ◌≤◌, Bool, true, false, cond, ◌&&◌, List, [], map, length, get_or, take, set, Some, None, Ok, Err, vec_items, Option, Result, sym, refl, ap, ◌∙◌, add-one, arith}
+use Rattle.std.proofs.Common.{◌≡◌, ℕ, zero, suc, ◌+◌, ◌<◌, Bool, true, false, cond, ◌&&◌, List, [], map, length, get_or, set, Some, None, Ok, Err, vec_items, Option, Result, sym, refl, ap, ◌∙◌, add-one, arith}
 use Rattle.std.specs.Vec.{with_items}
 use Rattle.std.specs.List.{slice_get}
-use Rattle.std.proofs.lemmas.List.{length-map, get_or-map, get_or_default, take_all, map-set, set-get_or, with_items_is}
-use Rattle.std.proofs.lemmas.Option.{slice_get-get_or}
+use Rattle.std.proofs.lemmas.List.{length-map, set-get_or}
 use Rattle.signals.specs.declared.signal.Signal.{Signal}
 use Rattle.signals.specs.Signals.{type_of}
 use Rattle.blocks.specs.Meanings.{Shape, Meaning, Lawful, typed, stepped_as}
 use Rattle.blocks.proofs.Answered.{both, typed_is}
-use Rattle.charts.specs.declared.page.Source.{Source}
 use Rattle.charts.specs.Pages as Pages
 use Rattle.charts.specs.Boxes.{Cells, taken, step_of, step_at, stepped_to, cycled}
 use Rattle.loading.specs.declared.page.Block.{Block}
 use Rattle.loading.specs.declared.page.Page.{Page}
-use Rattle.loading.specs.Models.{block_model, page_model, cells_model}
-use Rattle.running.specs.Turns.{box_of, wiring, all_cells, page_of, Turned}
+use Rattle.loading.specs.Models.{block_model, page_model, cells_model, wiring, all_cells}
+use Rattle.running.proofs.NewCells.{lent_back, with_cells, wired_at, old_row, new_row}
+use Rattle.running.specs.Turns.{box_of, page_of, Turned}
 
 -- ---- no kind has more than 8 pins
 
@@ -29,44 +28,26 @@ refused_as m law k ps cs many (Some s) e = go (typed s.pins ps && typed s.cells 
         absurd (omega (arith, length-map ps type_of))
     go false t = ap (λ b. (cond {A = Result (Unit {0}) ℕ × List Signal} b (Ok tt, m.new k ps cs) (Err 11, cs)).1) t
 
--- ---- what is gathered for a block with at most 8 sources is what its pins take
+-- ---- block i of bs has its turn, and has the cells xs then
 
-pub gathered : (bs : List Block) (i : ℕ) (d e : Block) → i < length bs → (f : Source → Signal) (sources : List Source) (got : List Signal) (n : ℕ)
-    → sources ≡ vec_items (get_or bs i d).pins → n ≡ length sources → n ≤ 8 → take (length sources) got ≡ map f (take 8 sources) → take (n - 0) got ≡ map f (vec_items (get_or bs i e).pins)
-gathered bs i d e lt f sources got n lent count few taking =
-    let whole : n - 0 ≡ length sources = omega arith in
-    ap (λ k. take k got) whole
-    ∙ taking
-    ∙ ap (map f) (take_all 8 sources (omega arith) ∙ lent ∙ ap (λ (b : Block). vec_items b.pins) (get_or_default bs i d e lt))
+module _ (bs : List Block) (i : ℕ) (d : Block) (lt : i < length bs) (m : Meaning) (terminals : List Signal) where
+  pub turned_cells : (xs : List Signal) → length xs ≡ length (vec_items (get_or bs i d).cells)
+      → xs ≡ step_of m terminals (all_cells bs) (block_model (get_or bs i d)) (vec_items (get_or bs i d).cells)
+      → all_cells (set bs i (with_cells (get_or bs i d) xs)) ≡ step_at m terminals (slice_get (wiring bs) i) i (all_cells bs)
+  turned_cells xs long new =
+      new_row bs i d lt xs long
+      ∙ ap (set (all_cells bs) i) (new ∙ ap (step_of m terminals (all_cells bs) (block_model (get_or bs i d))) (sym (old_row bs i d lt)))
+      ∙ sym (ap (λ o. step_at m terminals o i (all_cells bs)) (wired_at bs i d lt))
 
--- ---- block i of bs has its turn, and is y then
-
-module _ (bs : List Block) (i : ℕ) (d : Block) (lt : i < length bs) where
-  pub turned_wiring : (y : Block) → y.kind ≡ (get_or bs i d).kind → y.pins ≡ (get_or bs i d).pins → wiring (set bs i y) ≡ wiring bs
-  turned_wiring y kind pins =
-      let same : block_model y ≡ block_model (get_or bs i d) = λ j. record { kind = kind j; pins = vec_items (pins j) } in
-      map-set block_model bs i y
-      ∙ ap (set (wiring bs) i) (same ∙ sym (get_or-map block_model bs i d (block_model d) lt))
-      ∙ set-get_or (wiring bs) i (block_model d)
-
-  pub wired_at : slice_get (wiring bs) i ≡ Some (block_model (get_or bs i d))
-  wired_at = let n = length-map bs block_model in slice_get-get_or (wiring bs) i (block_model d) (omega arith) ∙ ap Some (get_or-map block_model bs i d (block_model d) lt)
-
-  module _ (m : Meaning) (terminals : List Signal) where
-    pub turned_cells : (y : Block) → vec_items y.cells ≡ step_of m terminals (all_cells bs) (block_model (get_or bs i d)) (vec_items (get_or bs i d).cells)
-        → all_cells (set bs i y) ≡ step_at m terminals (slice_get (wiring bs) i) i (all_cells bs)
-    turned_cells y new =
-        let old = get_or-map (λ x. vec_items x.cells) bs i d [] lt in
-        map-set (λ x. vec_items x.cells) bs i y
-        ∙ ap (set (all_cells bs) i) (new ∙ sym (ap (step_of m terminals (all_cells bs) (block_model (get_or bs i d))) old))
-        ∙ sym (ap (λ o. step_at m terminals o i (all_cells bs)) wired_at)
-
-    pub refused_cells : Lawful m → 8 < length (vec_items (get_or bs i d).pins) → all_cells bs ≡ step_at m terminals (slice_get (wiring bs) i) i (all_cells bs)
-    refused_cells law many =
-        let b = get_or bs i d in
-        let wide = length-map (vec_items b.pins) (taken terminals (all_cells bs)) in
-        sym (ap all_cells (set-get_or bs i d))
-        ∙ turned_cells b (sym (refused_as m law b.kind (map (taken terminals (all_cells bs)) (vec_items b.pins)) (vec_items b.cells) (omega arith) (m.shape b.kind) refl))
+  pub refused_cells : Lawful m → 8 < length (vec_items (get_or bs i d).pins) → all_cells bs ≡ step_at m terminals (slice_get (wiring bs) i) i (all_cells bs)
+  refused_cells law many =
+      let b = get_or bs i d in
+      let ps = map (taken terminals (all_cells bs)) (vec_items b.pins) in
+      let old = get_or (all_cells bs) i [] in
+      let wide = length-map (vec_items b.pins) (taken terminals (all_cells bs)) in
+      sym (set-get_or (all_cells bs) i [])
+      ∙ ap (set (all_cells bs) i) (sym (refused_as m law b.kind ps old (omega arith) (m.shape b.kind) refl))
+      ∙ sym (ap (λ o. step_at m terminals o i (all_cells bs)) (wired_at bs i d lt))
 
 -- ---- the cells after some turns depend on the wiring alone
 
@@ -89,8 +70,7 @@ pub turned_page : (m : Meaning) (p : Page) (terminals : List Signal) (lent new :
     → box_of (record { blocks = with_items p.blocks new; outputs = p.outputs }) terminals ≡ cycled m (box_of p terminals)
 turned_page m p terminals lent new whole long turned =
     let old = vec_items p.blocks in
-    let room = p.blocks.ok.0 in
-    let back = with_items_is p.blocks new (omega (arith, ap length whole)) in
+    let back = lent_back p lent new whole long in
     let wired : wiring (vec_items (with_items p.blocks new)) ≡ wiring old = ap wiring back ∙ turned.same_wiring ∙ ap wiring whole in
     let rows : all_cells (vec_items (with_items p.blocks new)) ≡ stepped_to m (page_model p) terminals (cells_model p) (length (page_model p).blocks) =
     ap all_cells back

@@ -1,11 +1,17 @@
--- Terminals set to zero one after the other. Assumes nothing.
-use Rattle.std.proofs.Common.{◌≡◌, ℕ, zero, suc, ◌+◌, ◌<◌, List, [], ◌∷◌, ◌++◌, length, drop, set, ap, arith}
+-- Terminals that are zero place by place. Assumes nothing.
+use Rattle.std.proofs.Common.{◌≡◌, ℕ, zero, suc, ◌<◌, List, ◌∷◌, map, length, get_or, refl, ap, ◌∙◌, add-one}
+use Rattle.std.specs.List.{range_with_len}
+use Rattle.std.proofs.lemmas.List.FromFn.{fill_by_all}
 use Rattle.signals.specs.Terminals.{terminal_type}
 use Rattle.signals.specs.declared.signal.Signal.{Signal}
 use Rattle.charts.specs.Boxes.{zero_at, zeros_from}
 
-pub zeros_more : (t n k : ℕ) (xs : List Signal) → k ≡ t + n → n < length xs → set (zeros_from t n ++ drop n xs) n (zero_at (terminal_type k)) ≡ zeros_from t (suc n) ++ drop (suc n) xs
-zeros_more t zero k [] e h = absurd (omega arith)
-zeros_more t zero k (x ∷ xs) e h = let here : k ≡ t = omega arith in ap (λ j. zero_at (terminal_type j) ∷ xs) here
-zeros_more t (suc n) k [] e h = absurd (omega arith)
-zeros_more t (suc n) k (x ∷ xs) e h = ap (λ zs. zero_at (terminal_type t) ∷ zs) (zeros_more (suc t) n k xs (omega arith) (omega arith))
+abbrev zero_of_terminal : ℕ → Signal
+zero_of_terminal k = zero_at (terminal_type k)
+
+zeros_are : (t n : ℕ) → map zero_of_terminal (range_with_len t n) ≡ zeros_from t n
+zeros_are t zero = refl
+zeros_are t (suc n) = ap (λ k. zero_of_terminal t ∷ map zero_of_terminal (range_with_len k n)) (add-one t) ∙ ap (λ zs. zero_of_terminal t ∷ zs) (zeros_are (suc t) n)
+
+pub zeros_by_place : (xs : List Signal) (n : ℕ) (d : Signal) → length xs ≡ n → ((k : ℕ) → k < n → get_or xs k d ≡ zero_at (terminal_type k)) → xs ≡ zeros_from 0 n
+zeros_by_place xs n d long each = fill_by_all zero_of_terminal xs n d long each ∙ zeros_are 0 n

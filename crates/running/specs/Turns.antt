@@ -1,25 +1,17 @@
 -- The blocks of a page in memory, and what they are as one after the other has its turn. Assumes nothing.
-use Rattle.std.specs.Prelude.{◌≡◌, ℕ, List, [], map, vec_items}
+use Rattle.std.specs.Prelude.{◌≡◌, ℕ, List, []}
 use Rattle.signals.specs.declared.signal.Signal.{Signal}
 use Rattle.blocks.specs.Meanings.{Meaning}
 use Rattle.charts.specs.Pages as Pages
-use Rattle.charts.specs.Boxes.{Box, Cells, stepped_to, CycleLaw}
+use Rattle.charts.specs.Boxes.{Box, stepped_to, CycleLaw}
 use Rattle.charts.specs.Laws.{SoundBox, NoStepRefused}
 use Rattle.loading.specs.declared.page.Block.{Block}
 use Rattle.loading.specs.declared.page.Page.{Page}
-use Rattle.loading.specs.Models.{block_model, page_model, cells_model}
+use Rattle.loading.specs.Models.{page_model, cells_model, wiring, all_cells}
 
 -- a page with its cells, and the terminals: a box
 abbrev pub box_of : Page → List Signal → Box
 box_of p terminals = record { page = page_model p; cells = cells_model p; terminals = terminals }
-
--- kinds and pin sources
-abbrev pub wiring : List Block → List Pages.Block
-wiring = map block_model
-
--- the cells of each block
-abbrev pub all_cells : List Block → Cells
-all_cells = map (λ b. vec_items b.cells)
 
 -- a page of these blocks; output records have no part in a cycle
 abbrev pub page_of : List Block → Pages.Page

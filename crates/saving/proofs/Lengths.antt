@@ -1,8 +1,7 @@
--- How long a chart is, where a usize may not hold it. Assumes nothing.
-use Rattle.std.proofs.Common.{◌≡◌, ℕ, suc, ◌+◌, ◌*◌, ◌^◌, ◌<◌, ◌≤◌, Bool, true, false, cond, ltb, List, [], ◌∷◌, length, Some, None, sym, refl, ap, mul-zero, mul-suc, arith}
+-- How long a chart is. Assumes nothing.
+use Rattle.std.proofs.Common.{◌≡◌, ℕ, suc, ◌+◌, ◌*◌, ◌^◌, ◌<◌, ◌≤◌, List, [], ◌∷◌, length, sym, refl, ap, mul-zero, mul-suc, arith}
 use Rattle.std.specs.List.{flat_map, AllByRecursion}
 use Rattle.std.proofs.lemmas.List.{length-append}
-use Rattle.std.proofs.lemmas.Bool.{ltb-false, le-ltb, cond-false}
 use Rattle.signals.specs.declared.signal.SignalType.{SignalType}
 use Rattle.blocks.specs.Meanings.{Meaning, Lawful}
 use Rattle.charts.specs.declared.page.Source.{Source}
@@ -11,18 +10,6 @@ use Rattle.charts.specs.Pages.{Block, Page, Shapes, block_limit, kinds_of}
 use Rattle.charts.specs.Charts.{source_bytes, block_bytes, output_bytes, written}
 use Rattle.charts.specs.Soundness.{Fed, SoundBlock, SoundOutput, Above, Rising, Sound}
 use Rattle.charts.proofs.Typings.{terminal_below}
-use Rattle.saving.specs.Writing.{in_usize, sum_of}
-
-too_large : (n : ℕ) → 2 ^ 64 ≤ n → in_usize n ≡ None
-too_large n h = cond-false (ltb n (2 ^ 64)) (Some n) None (le-ltb n (2 ^ 64) h)
-
-pub sum_in_usize : (m n : ℕ) → sum_of (in_usize m) (in_usize n) ≡ in_usize (m + n)
-sum_in_usize m n = go (ltb m (2 ^ 64)) refl (ltb n (2 ^ 64)) refl
-  where
-    go : (a : Bool) → ltb m (2 ^ 64) ≡ a → (b : Bool) → ltb n (2 ^ 64) ≡ b → sum_of (cond a (Some m) None) (cond b (Some n) None) ≡ in_usize (m + n)
-    go true p true q = refl
-    go true p false q = sym (too_large (m + n) (omega (arith, ltb-false n (2 ^ 64) q)))
-    go false p b q = sym (too_large (m + n) (omega (arith, ltb-false m (2 ^ 64) p)))
 
 -- items of one length
 joined_length : {X : Type 0} (f : X → List ℕ) (n : ℕ) → ((x : X) → length (f x) ≡ n) → (xs : List X) → length (flat_map f xs) ≡ n * length xs
@@ -34,8 +21,8 @@ source_length (Source.Constant x) = refl
 source_length (Source.Terminal t) = refl
 source_length (Source.Output b o) = refl
 
-pub block_length : (b : Block) → length (block_bytes b) ≡ 1 + 5 * length b.pins
-block_length b = omega (arith, joined_length source_bytes 5 source_length b.pins)
+pub sources_length : (xs : List Source) → length (flat_map source_bytes xs) ≡ 5 * length xs
+sources_length = joined_length source_bytes 5 source_length
 
 pub outputs_length : (rs : List OutputRecord) → length (flat_map output_bytes rs) ≡ 4 * length rs
 outputs_length = joined_length output_bytes 4 (λ r. refl)
@@ -53,7 +40,7 @@ blocks_below m law kinds [] h = omega arith
 blocks_below m law kinds (b ∷ bs) h =
     let s = h.0 in
     let few = (law.sized b.kind s.form s.formed).few_pins in
-    omega (arith, length-append (block_bytes b) (flat_map block_bytes bs), block_length b, fed_length m.shape kinds s.form.pins b.pins s.fed, blocks_below m law kinds bs h.1)
+    omega (arith, length-append (block_bytes b) (flat_map block_bytes bs), sources_length b.pins, fed_length m.shape kinds s.form.pins b.pins s.fed, blocks_below m law kinds bs h.1)
 
 outputs_from : (shapes : Shapes) (kinds : List ℕ) (t : ℕ) (rs : List OutputRecord) → t < 32 → Above t rs → AllByRecursion (SoundOutput shapes kinds) rs → Rising rs → t + length rs < 32
 outputs_from shapes kinds t [] l a h up = omega arith

@@ -1,58 +1,44 @@
 // The length of a page's chart, none where no usize holds it: the types of a page bound no sum of its lengths.
-ghost use Rattle.std.specs.Prelude.{◌≡◌, ◌+◌, ◌*◌, map, length};
+ghost use Rattle.std.specs.Prelude.{length};
 ghost use Rattle.std.specs.List.{flat_map};
-ghost use Rattle.charts.specs.Charts.{block_bytes, written};
-ghost use Rattle.loading.specs.Models.{block_model, page_model};
-ghost use Rattle.saving.specs.Writing.{in_usize, sum_of};
+ghost use Rattle.charts.specs.Charts.{block_bytes, output_bytes, written};
+ghost use Rattle.loading.specs.Models.{block_model, wiring, page_model};
+ghost use Rattle.saving.specs.Lengths.{IsInUsize};
 
+use charts::OutputRecord;
 use loading::{Block, Page};
 
-fn sum(a: Option<usize>, b: Option<usize>) -> Option<usize>
-    ensures { result ≡ sum_of a b }
+// The kind, and five bytes a pin.
+#[tactic(auto, using(crate::proofs::Lengths::sources_length))]
+fn block_length(block: &Block) -> Option<usize>
+    ensures { IsInUsize result (length (block_bytes (block_model block.now))) }
 {
-    match (a, b) {
-        (Some(m), Some(n)) => m.checked_add(n),
-        _ => None,
-    }
+    block.pins.len().checked_mul(5)?.checked_add(1)
 }
 
-// The kind, and five bytes a pin.
-fn block_length(pins: usize) -> Option<usize>
-    ensures { result ≡ in_usize (1 + 5 * pins) }
+#[tactic(auto, using(crate::proofs::Pieces::blocks_room))]
+fn blocks_length(blocks: &[Block]) -> Option<usize>
+    ensures { IsInUsize result (length (flat_map block_bytes (wiring blocks.now))) }
 {
-    if pins <= (usize::MAX - 1) / 5 {
-        Some(1 + 5 * pins)
-    } else {
-        None
+    let mut total = 0usize;
+    for block in blocks {
+        total = total.checked_add(block_length(block)?)?;
     }
+    Some(total)
 }
 
 // Four bytes a record.
-fn outputs_length(records: usize) -> Option<usize>
-    ensures { result ≡ in_usize (4 * records) }
+#[tactic(auto, using(crate::proofs::Lengths::outputs_length))]
+fn outputs_length(outputs: &[OutputRecord]) -> Option<usize>
+    ensures { IsInUsize result (length (flat_map output_bytes outputs.now)) }
 {
-    if records <= usize::MAX / 4 {
-        Some(4 * records)
-    } else {
-        None
-    }
-}
-
-fn blocks_length(blocks: &[Block]) -> Option<usize>
-    ensures { result ≡ in_usize (length (flat_map block_bytes (map block_model blocks.now))) }
-{
-    let mut total = Some(0);
-    for block in blocks {
-        total = sum(total, block_length(block.pins.len()));
-    }
-    total
+    outputs.len().checked_mul(4)
 }
 
 pub(crate) fn page_length(page: &Page) -> Option<usize>
-    ensures { result ≡ in_usize (length (written (page_model page.now))) }
+    ensures { IsInUsize result (length (written (page_model page.now))) }
 {
-    sum(
-        blocks_length(page.blocks.as_slice()),
-        outputs_length(page.outputs.len()),
-    )
+    let blocks = blocks_length(page.blocks.as_slice())?;
+    let outputs = outputs_length(page.outputs.as_slice())?;
+    blocks.checked_add(outputs)
 }

@@ -5,7 +5,7 @@ ghost use Rattle.loading.specs.Models.{page_model};
 ghost use Rattle.saving.specs.Saving.{room_for, saved};
 
 use crate::length::page_length;
-use crate::write::write_page;
+use crate::write::Piece;
 use blocks::Refusal;
 use loading::Page;
 
@@ -13,10 +13,9 @@ use loading::Page;
 pub fn length_within(page: &Page, room: usize) -> Result<usize, Refusal>
     ensures { numbered result ≡ room_for (page_model page.now) room }
 {
-    match page_length(page) {
-        Some(length) if length <= room => Ok(length),
-        _ => Err(Refusal::ShortBuffer),
-    }
+    page_length(page)
+        .filter(|length| *length <= room)
+        .ok_or(Refusal::ShortBuffer)
 }
 
 // Writes the chart at the front of a buffer, spares the bytes behind, and answers its length; leaves
@@ -25,5 +24,5 @@ pub fn save_page(page: &Page, buffer: &mut [u8]) -> Result<usize, Refusal>
     ensures { (numbered result, buffer.new) ≡ saved (page_model page.now) buffer.old }
 {
     length_within(page, buffer.len())?;
-    Ok(write_page(buffer, page))
+    Ok(page.write(buffer))
 }

@@ -1,16 +1,28 @@
-// Writes the records of a page into a lent buffer, each from a place on, and answers the place behind it.
-ghost use Rattle.std.specs.Prelude.{◌≡◌, ◌+◌, ◌≤◌, map, length};
+// Writes the pieces of a page's chart into a lent buffer.
+ghost use Rattle.std.specs.Prelude.{◌≡◌, ℕ, ◌≤◌, List, length};
 ghost use Rattle.std.specs.List.{flat_map};
 ghost use Rattle.charts.specs.Charts.{source_bytes, block_bytes, output_bytes, written};
 ghost use Rattle.loading.specs.Models.{block_model, page_model};
 ghost use Rattle.saving.specs.Saving.{at_front};
-ghost use Rattle.saving.specs.Writing.{over};
 
 use charts::{OutputRecord, Source};
 use loading::{Block, Page};
 use signals::coding::encode;
 
+// A piece of a chart.
+pub(crate) trait Piece {
+    // Its bytes in the chart.
+    ghost bytes: { Self → List ℕ };
+
+    // Writes the bytes at the front of a buffer, spares those behind, and answers how many there are.
+    fn write(&self, buffer: &mut [u8]) -> usize
+        requires { length (bytes self.now) ≤ length buffer.old }
+        ensures count { result ≡ length (bytes self.now) }
+        ensures writes { buffer.new ≡ at_front (bytes self.now) buffer.old };
+}
+
 // A tag, and four bytes.
+// Kept as a function: source and bytes are of other crates, so no `From` can stand here.
 fn source_bytes(source: Source) -> [u8; 5]
     ensures { result ≡ source_bytes source }
 {
@@ -24,88 +36,64 @@ fn source_bytes(source: Source) -> [u8; 5]
     }
 }
 
-fn output_bytes(output: OutputRecord) -> [u8; 4]
-    ensures { result ≡ output_bytes output }
+// Bytes at the front of a buffer, and how many there are.
+fn put(buffer: &mut [u8], bytes: &[u8]) -> usize
+    requires { length bytes.now ≤ length buffer.old }
+    ensures count { result ≡ length bytes.now }
+    ensures writes { buffer.new ≡ at_front bytes.now buffer.old }
 {
-    [0, output.terminal, output.block, output.output]
+    buffer[..bytes.len()].copy_from_slice(bytes);
+    bytes.len()
 }
 
-// Bytes from a place on.
-fn put(buffer: &mut [u8], at: usize, bytes: &[u8]) -> usize
-    requires { at + length bytes.now ≤ length buffer.old }
-    ensures ends { result ≡ at + length bytes.now }
-    ensures writes { buffer.new ≡ over buffer.old at bytes.now }
+impl Piece for Source {
+    ghost bytes = { source_bytes };
+
+    fn write(&self, buffer: &mut [u8]) -> usize {
+        put(buffer, &source_bytes(*self))
+    }
+}
+
+// The kind 0, then terminal, block and output.
+impl Piece for OutputRecord {
+    ghost bytes = { output_bytes };
+
+    fn write(&self, buffer: &mut [u8]) -> usize {
+        put(buffer, &[0, self.terminal, self.block, self.output])
+    }
+}
+
+// One piece behind the other.
+fn write_all<P: Piece>(pieces: &[P], buffer: &mut [u8]) -> usize
+    requires { length (flat_map P.bytes pieces.now) ≤ length buffer.old }
+    ensures count { result ≡ length (flat_map P.bytes pieces.now) }
+    ensures writes { buffer.new ≡ at_front (flat_map P.bytes pieces.now) buffer.old }
 {
-    let end = at + bytes.len();
-    buffer[at..end].copy_from_slice(bytes);
+    // Kept: where the next piece begins is what the last one answered, and a closure would have to lend the buffer anew each time.
+    let mut end = 0;
+    for piece in pieces {
+        end += piece.write(&mut buffer[end..]);
+    }
     end
 }
 
-fn write_source(buffer: &mut [u8], at: usize, source: Source) -> usize
-    requires { at + length (source_bytes source) ≤ length buffer.old }
-    ensures ends { result ≡ at + length (source_bytes source) }
-    ensures writes { buffer.new ≡ over buffer.old at (source_bytes source) }
-{
-    put(buffer, at, &source_bytes(source))
-}
-
-fn write_sources(buffer: &mut [u8], mut at: usize, sources: &[Source]) -> usize
-    requires { at + length (flat_map source_bytes sources.now) ≤ length buffer.old }
-    ensures ends { result ≡ at + length (flat_map source_bytes sources.now) }
-    ensures writes { buffer.new ≡ over buffer.old at (flat_map source_bytes sources.now) }
-{
-    for source in sources {
-        at = write_source(buffer, at, *source);
-    }
-    at
-}
-
 // The kind, and the sources.
-fn write_block(buffer: &mut [u8], at: usize, block: &Block) -> usize
-    requires { at + length (block_bytes (block_model block.now)) ≤ length buffer.old }
-    ensures ends { result ≡ at + length (block_bytes (block_model block.now)) }
-    ensures writes { buffer.new ≡ over buffer.old at (block_bytes (block_model block.now)) }
-{
-    let behind = put(buffer, at, &[block.kind]);
-    write_sources(buffer, behind, block.pins.as_slice())
-}
+impl Piece for Block {
+    ghost bytes = { λ block. block_bytes (block_model block) };
 
-fn write_blocks(buffer: &mut [u8], mut at: usize, blocks: &[Block]) -> usize
-    requires { at + length (flat_map block_bytes (map block_model blocks.now)) ≤ length buffer.old }
-    ensures ends { result ≡ at + length (flat_map block_bytes (map block_model blocks.now)) }
-    ensures writes { buffer.new ≡ over buffer.old at (flat_map block_bytes (map block_model blocks.now)) }
-{
-    for block in blocks {
-        at = write_block(buffer, at, block);
+    fn write(&self, buffer: &mut [u8]) -> usize {
+        buffer[0] = self.kind;
+        1 + write_all(self.pins.as_slice(), &mut buffer[1..])
     }
-    at
 }
 
-fn write_output(buffer: &mut [u8], at: usize, output: OutputRecord) -> usize
-    requires { at + length (output_bytes output) ≤ length buffer.old }
-    ensures ends { result ≡ at + length (output_bytes output) }
-    ensures writes { buffer.new ≡ over buffer.old at (output_bytes output) }
-{
-    put(buffer, at, &output_bytes(output))
-}
+// The blocks, and the output records.
+impl Piece for Page {
+    ghost bytes = { λ page. written (page_model page) };
 
-fn write_outputs(buffer: &mut [u8], mut at: usize, outputs: &[OutputRecord]) -> usize
-    requires { at + length (flat_map output_bytes outputs.now) ≤ length buffer.old }
-    ensures ends { result ≡ at + length (flat_map output_bytes outputs.now) }
-    ensures writes { buffer.new ≡ over buffer.old at (flat_map output_bytes outputs.now) }
-{
-    for output in outputs {
-        at = write_output(buffer, at, *output);
+    #[tactic(auto, using(crate::proofs::Pieces::chart_length))]
+    fn write(&self, buffer: &mut [u8]) -> usize {
+        let behind = write_all(self.blocks.as_slice(), buffer);
+        behind + write_all(self.outputs.as_slice(), &mut buffer[behind..])
     }
-    at
-}
-
-// The chart at the buffer's front.
-pub(crate) fn write_page(buffer: &mut [u8], page: &Page) -> usize
-    requires { length (written (page_model page.now)) ≤ length buffer.old }
-    ensures ends { result ≡ length (written (page_model page.now)) }
-    ensures writes { buffer.new ≡ at_front (written (page_model page.now)) buffer.old }
-{
-    let behind = write_blocks(buffer, 0, page.blocks.as_slice());
-    write_outputs(buffer, behind, page.outputs.as_slice())
 }

@@ -5,25 +5,23 @@ ghost use Rattle.std.specs.Prelude.{◌≡◌};
 ghost use Rattle.shipped.specs.Worked.{WorkedExamples};
 
 use blocks::{Cleaner, Pair};
-use kinds::{House, Standard};
+use kinds::{House, Kinds, Standard};
 
 // The cleaner over the pair of the standard and the house library.
-pub type Shipped = Cleaner<Pair<Standard, House>>;
+pub type Shipped = Cleaner<Pair<Kinds<Standard>, Kinds<House>>>;
 
 pub fn library() -> Shipped
-    ensures { result ≡ record { below = record { first = record {}; second = record {} } } }
+    ensures { result ≡ record { below = record { first = record { 0 = record {} }; second = record { 0 = record {} } } } }
 {
     Cleaner {
         below: Pair {
-            first: Standard,
-            second: House,
+            first: Kinds(Standard),
+            second: Kinds(House),
         },
     }
 }
 
 // The worked examples of rules, charts and traces, in one statement.
-pub fn worked_examples_hold() -> bool
+pub fn worked_examples_hold()
     ensures { WorkedExamples }
-{
-    true
-}
+{}

@@ -3,3 +3,4 @@ pub mod Signals
 pub mod Terminals
 pub mod Coding
 pub mod Same
+pub mod Names

@@ -5,6 +5,7 @@ ghost use Rattle.signals.specs.Coding.{encoded, decoded, CodingFaithful};
 use crate::signal::{Signal, SignalType};
 use std::num::{f32_from_bits_with_nan, f32_to_bits_with_nan};
 
+// Kept as a pair of functions: decoding is told the type, which no conversion trait can be, and a `From` for the one half would part them.
 // A 32-bit two's complement number, for REAL the bits. What is not a number has the one pattern 7FC00000.
 pub fn encode(signal: Signal) -> [u8; 4]
     ensures { result ≡ encoded signal }
@@ -28,18 +29,13 @@ pub fn decode(signal_type: SignalType, bytes: [u8; 4]) -> Option<Signal>
             1 => Some(Signal::Bool(true)),
             _ => None,
         },
-        SignalType::Int => match i16::try_from(number) {
-            Ok(n) => Some(Signal::Int(n)),
-            Err(_) => None,
-        },
+        SignalType::Int => i16::try_from(number).ok().map(Signal::Int),
         SignalType::Dint => Some(Signal::Dint(number)),
         SignalType::Real => Some(Signal::Real(f32_from_bits_with_nan(u32::from_be_bytes(bytes)))),
     }
 }
 
 // Theorem: no signal is lost in its coding.
-pub fn coding_is_faithful() -> u8
+pub fn coding_is_faithful()
     ensures { CodingFaithful }
-{
-    0
-}
+{}

@@ -2,6 +2,7 @@
 #![tactic(auto)]
 
 pub mod coding;
+pub mod names;
 pub mod real;
 pub mod signal;
 pub mod terminals;

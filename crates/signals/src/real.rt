@@ -54,6 +54,7 @@ fn pattern(x: f32) -> u32
 }
 
 // Whether two REALs are one value: 0 and negative zero are two, all that is not a number is one.
+// Kept beside the `==` of f32, which says otherwise of both.
 pub fn same(a: f32, b: f32) -> bool
     ensures { Decides result (a ≡ b) }
 {

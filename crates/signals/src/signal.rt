@@ -35,6 +35,7 @@ impl SignalType {
         }
     }
 
+    // Kept beside `zero`: the two differ in four constants, and one function that is told which is no plainer.
     pub fn one(self) -> Signal
         ensures { result ≡ one_of self }
     {
@@ -92,12 +93,11 @@ impl Signal {
 }
 
 // Theorem: what cleaning does.
-pub fn cleaning_is_sound() -> u8
+pub fn cleaning_is_sound()
     ensures { Cleaning }
-{
-    0
-}
+{}
 
+// Kept by hand: a derived equality is that of f32, to which what is not a number differs from itself and the two zeros are one.
 impl PartialEq for Signal {
     ghost eq = { same_signal };
 

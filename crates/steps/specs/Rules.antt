@@ -73,11 +73,8 @@ replaced new cs = cond (typed (map type_of new) cs) (Ok tt, new) (Err 11, cs)
 abbrev pub divided_cells : Divided → List Signal
 divided_cells d = Signal.Dint d.y ∷ Signal.Dint d.rest ∷ Signal.Bool d.qf ∷ []
 
-abbrev pub real_limited_cells : Limited Float → List Signal
-real_limited_cells l = Signal.Real l.y ∷ Signal.Bool l.qu ∷ Signal.Bool l.ql ∷ []
-
-abbrev pub dint_limited_cells : Limited ℤ → List Signal
-dint_limited_cells l = Signal.Dint l.y ∷ Signal.Bool l.qu ∷ Signal.Bool l.ql ∷ []
+abbrev pub limited_cells : {T : Type 0} → (T → Signal) → Limited T → List Signal
+limited_cells signal l = signal l.y ∷ Signal.Bool l.qu ∷ Signal.Bool l.ql ∷ []
 
 abbrev pub delayed_cells : Delayed → List Signal
 delayed_cells d = Signal.Bool d.q ∷ Signal.Dint d.n ∷ []
@@ -112,8 +109,8 @@ new_cells Not ps cs = Signal.Bool (opposite (bool_at ps 0)) ∷ []
 new_cells Add ps cs = Signal.Real (real_sum (real_at ps 0) (real_at ps 1)) ∷ []
 new_cells AddD ps cs = Signal.Dint (dint_sum (dint_at ps 0) (dint_at ps 1)) ∷ []
 new_cells DivD ps cs = divided_cells (divided (dint_at ps 0) (dint_at ps 1))
-new_cells Lim ps cs = real_limited_cells (limited lt (real_at ps 0) (real_at ps 1) (real_at ps 2))
-new_cells LimD ps cs = dint_limited_cells (limited int_lt (dint_at ps 0) (dint_at ps 1) (dint_at ps 2))
+new_cells Lim ps cs = limited_cells (λ y. Signal.Real y) (limited lt (real_at ps 0) (real_at ps 1) (real_at ps 2))
+new_cells LimD ps cs = limited_cells (λ y. Signal.Dint y) (limited int_lt (dint_at ps 0) (dint_at ps 1) (dint_at ps 2))
 new_cells Pde ps cs = delayed_cells (delayed (bool_at ps 0) (dint_at ps 1) (dint_at cs 1))
 new_cells Ctr ps cs = counted_cells (counted (pins_by_name ps) (memory_by_name cs))
 new_cells Rsr ps cs = Signal.Bool (remembered (bool_at ps 0) (bool_at ps 1) (bool_at cs 0)) ∷ []

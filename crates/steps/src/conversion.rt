@@ -4,17 +4,17 @@ ghost use Rattle.blocks.specs.Refusals.{numbered};
 ghost use Rattle.steps.specs.Rules.{stepped_kind};
 ghost use Rattle.table.specs.declared.Kind.TheVariants.{IR, RD, N2R};
 
-use crate::cells::{put, put_two};
+use crate::cells::put;
 use blocks::Refusal;
 use rules::conversion;
-use rules::conversion::Setting;
+use rules::conversion::{Setting, Whole};
 use signals::Signal;
 
 pub(crate) fn step_i_r(pins: &[Signal], cells: &mut [Signal]) -> Result<(), Refusal>
     ensures { (numbered result, cells.new) ≡ stepped_kind IR pins.now cells.old }
 {
     match pins {
-        [Signal::Int(x)] => put(cells, Signal::Real(conversion::i_r(*x))),
+        [Signal::Int(x)] => put(cells, [Signal::Real(conversion::i_r(*x))]),
         _ => Err(Refusal::WrongSignal),
     }
 }
@@ -24,8 +24,8 @@ pub(crate) fn step_r_d(pins: &[Signal], cells: &mut [Signal]) -> Result<(), Refu
 {
     match pins {
         [Signal::Real(x)] => {
-            let new = conversion::r_d(*x);
-            put_two(cells, Signal::Dint(new.y), Signal::Bool(new.qf))
+            let Whole { y, qf } = conversion::r_d(*x);
+            put(cells, [Signal::Dint(y), Signal::Bool(qf)])
         }
         _ => Err(Refusal::WrongSignal),
     }
@@ -40,7 +40,7 @@ pub(crate) fn step_n2_r(pins: &[Signal], cells: &mut [Signal]) -> Result<(), Ref
                 factor: *factor,
                 reference: *reference,
             };
-            put(cells, Signal::Real(conversion::n2_r(*x, setting)))
+            put(cells, [Signal::Real(conversion::n2_r(*x, setting))])
         }
         _ => Err(Refusal::WrongSignal),
     }

@@ -1,12 +1,13 @@
 // The step of the counter.
-ghost use Rattle.std.specs.Prelude.{◌≡◌, length};
+ghost use Rattle.std.specs.Prelude.{◌≡◌};
 ghost use Rattle.blocks.specs.Refusals.{numbered};
-ghost use Rattle.steps.specs.Rules.{stepped_kind, counter_pins, counter_memory, counted_cells};
+ghost use Rattle.steps.specs.Rules.{stepped_kind, counter_pins, counter_memory};
 ghost use Rattle.table.specs.declared.Kind.TheVariants.{Ctr};
 
+use crate::cells::put;
 use blocks::Refusal;
 use rules::counter;
-use rules::counter::{Counted, CounterMemory, CounterPins};
+use rules::counter::{CounterMemory, CounterPins};
 use signals::Signal;
 
 pub(crate) fn step_ctr(pins: &[Signal], cells: &mut [Signal]) -> Result<(), Refusal>
@@ -15,11 +16,21 @@ pub(crate) fn step_ctr(pins: &[Signal], cells: &mut [Signal]) -> Result<(), Refu
     let (Some(pins), Some(memory)) = (pins_of(pins), memory_of(cells)) else {
         return Err(Refusal::WrongSignal);
     };
-    write(cells, counter::ctr(pins, memory));
-    Ok(())
+    let new = counter::ctr(pins, memory);
+    put(
+        cells,
+        [
+            Signal::Int(new.count.y),
+            Signal::Bool(new.count.qu),
+            Signal::Bool(new.count.ql),
+            Signal::Bool(new.pu),
+            Signal::Bool(new.pd),
+        ],
+    )
 }
 
 // The pins by name, none where they are not a counter's.
+// Kept as functions, this and the next: `TryFrom` cannot stand here, since their types are of `rules`, which knows no signals.
 fn pins_of(pins: &[Signal]) -> Option<CounterPins>
     ensures { result ≡ counter_pins pins.now }
 {
@@ -59,15 +70,4 @@ fn memory_of(cells: &[Signal]) -> Option<CounterMemory>
         }),
         _ => None,
     }
-}
-
-fn write(cells: &mut [Signal], new: Counted)
-    requires { length cells.old ≡ 5 }
-    ensures { cells.new ≡ counted_cells new }
-{
-    cells[0] = Signal::Int(new.count.y);
-    cells[1] = Signal::Bool(new.count.qu);
-    cells[2] = Signal::Bool(new.count.ql);
-    cells[3] = Signal::Bool(new.pu);
-    cells[4] = Signal::Bool(new.pd);
 }

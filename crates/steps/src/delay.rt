@@ -4,19 +4,19 @@ ghost use Rattle.blocks.specs.Refusals.{numbered};
 ghost use Rattle.steps.specs.Rules.{stepped_kind};
 ghost use Rattle.table.specs.declared.Kind.TheVariants.{Pde};
 
-use crate::cells::{as_dint, at, put_two};
+use crate::cells::put;
 use blocks::Refusal;
 use rules::delay;
+use rules::delay::Delayed;
 use signals::Signal;
 
 pub(crate) fn step_pde(pins: &[Signal], cells: &mut [Signal]) -> Result<(), Refusal>
     ensures { (numbered result, cells.new) ≡ stepped_kind Pde pins.now cells.old }
 {
-    let n = as_dint(at(cells, 1));
-    match pins {
-        [Signal::Bool(i), Signal::Dint(t)] => {
-            let new = delay::pde(*i, *t, n);
-            put_two(cells, Signal::Bool(new.q), Signal::Dint(new.n))
+    match (pins, &*cells) {
+        ([Signal::Bool(i), Signal::Dint(t)], [Signal::Bool(_), Signal::Dint(kept)]) => {
+            let Delayed { q, n } = delay::pde(*i, *t, *kept);
+            put(cells, [Signal::Bool(q), Signal::Dint(n)])
         }
         _ => Err(Refusal::WrongSignal),
     }

@@ -17,6 +17,7 @@ mod delay;
 mod gates;
 
 // Refuses a wrong count or type of signals, and leaves the cells then.
+// Kept: kinds are a closed enum, and a match over it is the plain form of a choice among their steps.
 pub fn step(kind: Kind, pins: &[Signal], cells: &mut [Signal]) -> Result<(), Refusal>
     ensures { (numbered result, cells.new) ≡ stepped_kind kind pins.now cells.old }
 {

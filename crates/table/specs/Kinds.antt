@@ -1,5 +1,6 @@
 -- The kinds of the standard and the house library: numbers, pins, starting cells and outputs. Assumes nothing.
-use Rattle.std.specs.Prelude.{ℕ, zero, suc, true, false, List, [], ◌∷◌, map, pos, None, Option}
+use Rattle.std.specs.Prelude.{ℕ, zero, suc, ◌≤◌, true, false, List, [], ◌∷◌, map, length, pos, None, Option}
+use Rattle.std.proofs.Common.{lit≤}
 use Rattle.std.specs.List.{slice_get}
 use Rattle.signals.specs.Real.{zero_real}
 use Rattle.signals.specs.Signals.{type_of}
@@ -19,6 +20,13 @@ standard_kinds = And ∷ Or ∷ Not ∷ Add ∷ AddD ∷ DivD ∷ Lim ∷ LimD �
 
 abbrev pub house_kinds : List Kind
 house_kinds = Hys ∷ []
+
+-- numbers are bytes
+pub few_standard : length standard_kinds ≤ 255
+few_standard = lit≤ tt
+
+pub few_house : length house_kinds ≤ 255
+few_house = lit≤ tt
 
 abbrev pub standard_kind : ℕ → Option Kind
 standard_kind = counted_from_one standard_kinds

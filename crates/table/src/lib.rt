@@ -2,9 +2,13 @@
 #![tactic(auto)]
 
 ghost use Rattle.std.specs.Prelude.{◌≡◌};
-ghost use Rattle.table.specs.Kinds.{standard_kind, house_kind, pin_types, start_cells, output_count};
+ghost use Rattle.table.specs.Kinds.{pin_types, start_cells, output_count};
 
 use signals::{Signal, SignalType};
+
+pub mod numbering;
+
+pub use numbering::{House, Numbering, Standard};
 
 #[derive(Clone, Copy, Debug, PartialEq, Eq)]
 pub enum Kind {
@@ -27,40 +31,6 @@ pub enum Kind {
 }
 
 impl Kind {
-    // The kind of the standard library that has a number, none for any other number.
-    pub fn standard(number: u8) -> Option<Kind>
-        ensures { result ≡ standard_kind number }
-    {
-        match number {
-            1 => Some(Kind::And),
-            2 => Some(Kind::Or),
-            3 => Some(Kind::Not),
-            4 => Some(Kind::Add),
-            5 => Some(Kind::AddD),
-            6 => Some(Kind::DivD),
-            7 => Some(Kind::Lim),
-            8 => Some(Kind::LimD),
-            9 => Some(Kind::Pde),
-            10 => Some(Kind::Ctr),
-            11 => Some(Kind::Rsr),
-            12 => Some(Kind::NswD),
-            13 => Some(Kind::IR),
-            14 => Some(Kind::RD),
-            15 => Some(Kind::N2R),
-            _ => None,
-        }
-    }
-
-    // The kind of the house library that has a number, none for any other number.
-    pub fn house(number: u8) -> Option<Kind>
-        ensures { result ≡ house_kind number }
-    {
-        match number {
-            1 => Some(Kind::Hys),
-            _ => None,
-        }
-    }
-
     pub fn pins(self) -> &'static [SignalType]
         ensures { result.now ≡ pin_types self }
     {

@@ -1,10 +1,17 @@
--- The set of lit blocks, read from the last block down. Assumes nothing.
-use Rattle.std.proofs.Common.{◌≡◌, ℕ, ◌+◌, ◌*◌, ◌^◌, ◌<◌, ◌≤◌, Bool, false, cond, List, [], map, length, get_or, drop, vec_items, sym, ap, ◌∙◌, arith, pow_mono}
-use Rattle.std.proofs.lemmas.List.{length-map, length-drop, get_or-map, drop_all, at_drop_more}
-use Rattle.charts.specs.Tracing.{lit_block, set_of}
+-- The lit blocks of a page, read from its last block down. Assumes nothing.
+use Rattle.std.proofs.Common.{◌≡◌, ℕ, ◌+◌, ◌*◌, ◌^◌, ◌<◌, ◌≤◌, ◌&&◌, Bool, cond, List, [], ◌∷◌, ◌++◌, map, length, reverse, vec_items, refl, sym, ap, ◌∙◌, arith, pow_mono}
+use Rattle.std.specs.List.{list_all}
+use Rattle.std.proofs.lemmas.List.{length-map, length-append, length-reverse, reverse-append, reverse-reverse}
+use Rattle.signals.specs.declared.signal.Signal.{Signal}
+use Rattle.charts.specs.Tracing.{is_one, lit_block, set_of}
 use Rattle.charts.proofs.Words.{set_below}
 use Rattle.loading.specs.declared.page.Block.{Block}
-use Rattle.running.specs.Turns.{all_cells}
+use Rattle.loading.specs.Models.{all_cells}
+
+-- a block is lit if all its cells are 1
+pub all_lit : (cells : List Signal) → list_all is_one cells ≡ lit_block cells
+all_lit [] = refl
+all_lit (x ∷ xs) = ap (λ b. is_one x && b) (all_lit xs)
 
 abbrev rows : List Block → List Bool
 rows bs = map lit_block (all_cells bs)
@@ -12,24 +19,19 @@ rows bs = map lit_block (all_cells bs)
 length-rows : (bs : List Block) → length (rows bs) ≡ length bs
 length-rows bs = length-map (all_cells bs) lit_block ∙ length-map bs (λ (b : Block). vec_items b.cells)
 
--- no block
-pub set_none : (bs : List Block) (i : ℕ) → length bs ≤ i → 0 ≡ set_of (drop i (rows bs))
-set_none bs i past = let n = length-rows bs in sym (ap set_of (drop_all i (rows bs) (omega arith)))
+-- the set of at most 64 blocks that were read, the last one first
+abbrev pub ReadSoFar : List Block → ℕ → Type 0
+ReadSoFar bs set = length bs ≤ 64 → set ≡ set_of (rows (reverse bs))
 
--- one block earlier
-pub set_more : (bs : List Block) (i : ℕ) (d : Block) (lit : Bool) (set : ℕ) → i < length bs → lit ≡ lit_block (vec_items (get_or bs i d).cells) → set ≡ set_of (drop (i + 1) (rows bs))
-    → cond lit 1 0 + 2 * set ≡ set_of (drop i (rows bs))
-set_more bs i d lit set lt is later =
-    let many = length-map bs (λ (b : Block). vec_items b.cells) in
-    let n = length-rows bs in
-    let row = get_or-map lit_block (all_cells bs) i [] false (omega arith) ∙ ap lit_block (get_or-map (λ (b : Block). vec_items b.cells) bs i d [] lt) in
-    (λ j. cond ((is ∙ sym row) j) 1 0 + 2 * later j) ∙ sym (at_drop_more set_of (rows bs) i false (omega arith))
+-- one block more; the set of the others leaves room for one bit
+pub read_more : (bs : List Block) (set more : ℕ) (b : Block) → ReadSoFar bs set → (set < 2 ^ 63 → more ≡ cond (lit_block (vec_items b.cells)) 1 0 + 2 * set) → ReadSoFar (bs ++ b ∷ []) more
+read_more bs set more b before next few =
+    let long = length-append bs (b ∷ []) in
+    let is = before (omega arith) in
+    let short : length (rows (reverse bs)) ≤ 63 = omega (arith, length-rows (reverse bs), length-reverse bs) in
+    let below = set_below (rows (reverse bs)) in
+    let room : set < 2 ^ 63 = omega (arith, pow_mono short) in
+    next room ∙ ap (λ n. cond (lit_block (vec_items b.cells)) 1 0 + 2 * n) is ∙ ap (λ bs. set_of (rows bs)) (sym (reverse-append bs (b ∷ [])))
 
--- the set of the later blocks leaves room for one bit more
-pub set_fits : (bs : List Block) (i set : ℕ) → length bs ≤ 64 → 0 < i → set ≡ set_of (drop i (rows bs)) → set < 2 ^ 63
-set_fits bs i set few some is =
-    let n = length-rows bs in
-    let long = length-drop i (rows bs) in
-    let short : length (drop i (rows bs)) ≤ 63 = omega arith in
-    let below = set_below (drop i (rows bs)) in
-    omega (arith, pow_mono short)
+pub read_all : (bs : List Block) (set : ℕ) → ReadSoFar (reverse bs) set → length bs ≤ 64 → set ≡ set_of (rows bs)
+read_all bs set read few = read (omega (arith, length-reverse bs)) ∙ ap (λ bs. set_of (rows bs)) (reverse-reverse bs)

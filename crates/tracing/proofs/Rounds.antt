@@ -7,8 +7,8 @@ use Rattle.charts.specs.Boxes.{Box, Cells, zeros_from}
 use Rattle.charts.specs.Tracing.{zeroed, lighted, cycles, lamps, lit_block, set_of}
 use Rattle.loading.specs.declared.page.Block.{Block}
 use Rattle.loading.specs.declared.page.Page.{Page}
-use Rattle.loading.specs.Models.{block_model, page_model, cells_model}
-use Rattle.running.specs.Turns.{box_of, all_cells}
+use Rattle.loading.specs.Models.{block_model, page_model, cells_model, all_cells}
+use Rattle.running.specs.Turns.{box_of}
 use Rattle.tracing.specs.Parts.{dimmed, lit_box}
 
 cycles_page : (m : Meaning) (n : ℕ) (x : Box) → (cycles m n x).page ≡ x.page

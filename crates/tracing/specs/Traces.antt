@@ -4,6 +4,7 @@ use Rattle.blocks.specs.Meanings.{Meaning}
 use Rattle.charts.specs.Pages.{Page, block_limit}
 use Rattle.charts.specs.Loading.{load}
 use Rattle.charts.specs.Tracing.{trace, traced, lamps, set_of, number_lit, TraceLaw}
+use Rattle.loading.specs.declared.fault.LoadError.{LoadError}
 use Rattle.loading.specs.FaultNumbers.{fault_number}
 use Rattle.tracing.specs.declared.trace.Trace.{Trace}
 use Rattle.tracing.specs.declared.trace.TraceError.{TraceError}
@@ -11,9 +12,9 @@ use Rattle.tracing.specs.declared.trace.TraceError.{TraceError}
 -- the answer is that of the rules
 abbrev pub Traced : Meaning → List ℕ → ℕ → Result Trace TraceError → Type 0
 Traced m chart t (Ok a) = trace m block_limit chart t ≡ Ok (a.set, a.lamps)
-Traced m chart t (Err (TraceError.Refused f place)) = trace m block_limit chart t ≡ Err (fault_number f, place)
+Traced m chart t (Err (TraceError.Load (LoadError.Refused f place))) = trace m block_limit chart t ≡ Err (fault_number f, place)
 Traced m chart t (Err TraceError.Missing) = trace m block_limit chart t ≡ Err (10, 0)
-Traced m chart t (Err TraceError.Memory) = Unit {0}
+Traced m chart t (Err (TraceError.Load LoadError.Memory)) = Unit {0}
 
 -- an answered trace, in the subject's words: of the chart's page and any number of cycles that is at least that of its blocks
 pub record Reaches (m : Meaning) (chart : List ℕ) (t : ℕ) (a : Trace) : Type 0 where

@@ -2,7 +2,8 @@
 ghost use Rattle.std.specs.Prelude.{◌≡◌, ◌≤◌, length, count_ones};
 ghost use Rattle.charts.specs.Tracing.{cycles, lamps, set_of};
 ghost use Rattle.loading.specs.Models.{page_model};
-ghost use Rattle.tracing.specs.Parts.{lit_box, trace_error};
+ghost use Rattle.tracing.specs.Parts.{lit_box};
+ghost use Rattle.tracing.specs.declared.trace.TraceError.TheVariants.{Load};
 ghost use Rattle.tracing.specs.Traces.{Traced, TracedLaw};
 
 use crate::dim::dim_page;
@@ -11,11 +12,12 @@ use crate::light::light;
 use crate::run::run_cycles;
 use blocks::{Lamps, Library};
 use loading::load::load;
-use loading::{Fault, LoadError, Page};
+use loading::{LoadError, Page};
 use running::terminals::zero_terminals;
 use std::alloc::Global;
 
 // The lit blocks, bit b for block b, and how many lamps are lit.
+// Kept as a word and its count of ones: a rule of the project.
 #[derive(Clone, Copy, Debug, PartialEq, Eq)]
 pub struct Trace {
     pub set: u64,
@@ -25,22 +27,18 @@ pub struct Trace {
 // Why a block was not traced.
 #[derive(Clone, Copy, Debug, PartialEq, Eq)]
 pub enum TraceError {
-    // The chart's first fault, and the offset of its record's first byte.
-    Refused { fault: Fault, place: usize },
+    // The chart was not loaded.
+    Load(LoadError),
     // The chart has no such block: 10, with the place 0.
     Missing,
-    // There was no memory for the page. It has no number.
-    Memory,
 }
 
+// Kept by hand: a derived `From` has no clause, and the trace's promise names the case.
 impl From<LoadError> for TraceError {
-    ghost from_gives = { λ error r. r ≡ trace_error error };
+    ghost from_gives = { λ error r. r ≡ Load error };
 
     fn from(error: LoadError) -> TraceError {
-        match error {
-            LoadError::Refused { fault, place } => TraceError::Refused { fault, place },
-            LoadError::Memory => TraceError::Memory,
-        }
+        TraceError::Load(error)
     }
 }
 
@@ -57,7 +55,7 @@ pub fn trace_block<L: Library>(
 {
     let lamps = Lamps { below: library };
     let mut page = load(heap, &lamps, chart)?;
-    if (block as usize) < page.blocks.len() {
+    if usize::from(block) < page.blocks.len() {
         Ok(trace_page(&lamps, &mut page, block))
     } else {
         Err(TraceError::Missing)
@@ -74,14 +72,6 @@ fn trace_page<L: Library>(library: &L, page: &mut Page, block: u8) -> Trace
     light(page, block);
     run_cycles(library, &zero_terminals(), page);
     let set = lit_set(&page.blocks);
-    counted(set)
-}
-
-// One lamp for each block of the set.
-fn counted(set: u64) -> Trace
-    ensures set { result.set ≡ set }
-    ensures lamps { result.lamps ≡ count_ones set }
-{
     Trace {
         set,
         lamps: set.count_ones(),

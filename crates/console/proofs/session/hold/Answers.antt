@@ -1,6 +1,5 @@
 use Rattle.std.proofs.Common.{◌≡◌, ◌+◌, [], ◌++◌, get_or, drop, string_bytes, sym, ap, ◌∙◌, subst, append-nil}
 use Rattle.std.proofs.lemmas.List.{drop_all}
-use Rattle.boxes.specs.States.{box_model}
 use Rattle.charts.specs.Boxes.{Box}
 use Rattle.charts.specs.Calls.{run}
 use Rattle.console.specs.declared.line.Line.{Line}
@@ -13,8 +12,8 @@ use Rattle.console.proofs.session.hold.Goals as goal
 pub loop-request-preserved : goal.loop-request-preserved
 loop-request-preserved g c =
     let m = g.L.Library.meaning c.args.gate_box.library in
-    let x = box_model c.loop-request.gate_box in
-    let y = box_model c.ask.new.gate_box in
+    let x = c.loop-request.gate_box.box in
+    let y = c.ask.new.gate_box.box in
     let line = c.ask.result in
     let qs = c.args.requests.now in
     let i = c.loop-request.request-index in
@@ -28,7 +27,7 @@ loop-request-preserved g c =
 pub returns : goal.returns
 returns g c =
     let m = g.L.Library.meaning c.args.gate_box.library in
-    let x = box_model c.loop-request.gate_box in
+    let x = c.loop-request.gate_box.box in
     let qs = c.args.requests.now in
     let none = drop_all c.loop-request.request-index qs c.loop-request-test.false in (
       sym (ap (λ l. run m x (calls_of m x l)) none) ∙ c.loop-request.invariant.1,

@@ -1,27 +1,24 @@
-use Rattle.std.proofs.Common.{◌<◌, ◌≤◌, length, drop, vec_items, vec_len, rules}
-use Rattle.charts.specs.Loading.{pins_of}
+use Rattle.std.proofs.Common.{vec_items, refl}
 use Rattle.loading.specs.Built.{sources_in}
-use Rattle.loading.proofs.BlockParts.{pin_more, pins_end, pins_out}
+use Rattle.loading.proofs.BlockParts.{pins_start, pin_more, pins_out, pins_end}
 use Rattle.loading.proofs.build.read_pins.Goals as goal
-use Rattle.loading.proofs.build.read_pins.Goals.{in_default, in-len5-up+in_default-pin_type}
+use Rattle.loading.proofs.build.read_pins.Goals.{else-loop-number-test, then-loop-number-test+in_default}
 
-pub loop-rest-preserved : goal.loop-rest-preserved
-loop-rest-preserved g c =
+pub loop-number-init : goal.loop-number-init
+loop-number-init g c = pins_start (g.L.Library.meaning c.args.library.now) c.args.found.now.kind c.args.found.now.body.now _ c.as_chunks.ensures.front _ c.new-sources.ensures.items
+
+pub loop-number-preserved : goal.loop-number-preserved
+loop-number-preserved g c =
     let m = g.L.Library.meaning c.args.library.now in
-    let pins = c.loop-rest.pins in
-    let enough : 5 ≤ length c.loop-rest.rest.now = search rules in
-    pin_more m c.args.kind c.len.result (vec_len pins) c.len.ensures c.loop-rest.rest.now (vec_items pins) (sources_in m c.args.kind c.args.body.now) c.loop-rest.invariant
-    c.in-Some.signal_type c.source_of.result (vec_len c.push.new.self) (vec_items c.push.new.self) c.in-Some.ensures enough c.source_of.ensures c.in_ok-push.ensures.len
-    c.in_ok-push.ensures.items
+    let all = sources_in m c.args.found.now.kind c.args.found.now.body.now in
+    pin_more m c.args.found.now.kind c.as_chunks.result.0.now all c.loop-number.number (vec_items c.loop-number.sources) c.loop-number.invariant _ _ refl c.loop-number-test.true
+    c.in-Some.signal_type c.in-Some.ensures c.source_of.result c.source_of.ensures (vec_items c.push.new.self) c.in_ok-push.ensures.items
 
 pub returns : goal.returns
 returns g c =
     let m = g.L.Library.meaning c.args.library.now in
-    let pins = c.loop-rest.pins in
-    let rest = c.loop-rest.rest.now in
-    let all = sources_in m c.args.kind c.args.body.now in
-    elim c.if-rest-lt5.branch [
-      | in_default w ↦ let short : length rest < 5 = search rules in pins_end (drop (vec_len pins) (pins_of (m.shape c.args.kind))) rest (vec_items pins) all c.loop-rest.invariant short
-      | in-len5-up+in_default-pin_type w ↦
-          pins_out m c.args.kind w.len.result (vec_len pins) w.len.ensures rest (vec_items pins) all c.loop-rest.invariant w.in_default-pin_type.ensures
+    let all = sources_in m c.args.found.now.kind c.args.found.now.body.now in
+    elim c.loop-number-test.branch [
+      | else-loop-number-test w ↦ pins_end m c.args.found.now.kind c.as_chunks.result.0.now all c.loop-number.number (vec_items c.loop-number.sources) c.loop-number.invariant w.loop-number-test.false
+      | then-loop-number-test+in_default w ↦ pins_out m c.args.found.now.kind c.as_chunks.result.0.now all c.loop-number.number (vec_items c.loop-number.sources) c.loop-number.invariant w.in_default.ensures
     ]

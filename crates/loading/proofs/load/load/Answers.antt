@@ -6,14 +6,14 @@ returns-in_err-kinds g c =
     let h = one_refused (g.L.Library.meaning c.args.library.now) c.args.chart.now c.in_err-kinds.field-0.0 c.from_residual.result c.in_err-kinds.ensures c.from_residual.ensures.1 in
     record { loaded = h.0; means = h.1 }
 
-pub returns-in_err-refuse : goal.returns-in_err-refuse
-returns-in_err-refuse g c =
+pub returns-in_err-walk_two : goal.returns-in_err-walk_two
+returns-in_err-walk_two g c =
     let h = two_refused (g.L.Library.meaning c.args.library.now) c.args.chart.now c.in_ok-kinds.kinds c.deref.result.now c.deref.ensures.value c.in_ok-kinds.ensures
-    c.walk_two.result c.walk_two.ensures c.in_err-refuse.field-0.0 c.in_err-refuse.ensures c.from_residual-in_err-refuse.result c.from_residual-in_err-refuse.ensures.1 in
+    c.in_err-walk_two.field-0.0 c.in_err-walk_two.ensures c.from_residual-in_err-walk_two.result c.from_residual-in_err-walk_two.ensures.1 in
     record { loaded = h.0; means = h.1 }
 
 pub returns : goal.returns
 returns g c =
     let h = accepted (g.L.Library.meaning c.args.library.now) c.args.chart.now c.in_ok-kinds.kinds c.deref.result.now c.deref.ensures.value c.in_ok-kinds.ensures
-    c.walk_two.result c.walk_two.ensures c.in_ok-refuse.field-0 c.in_ok-refuse.ensures (bytes_fit c.args.chart.now c.type_inv.chart) c.in_ok-page.page c.in_ok-page.ensures in
+    c.in_ok-walk_two.field-0 c.in_ok-walk_two.ensures (bytes_fit c.args.chart.now c.type_inv.chart) c.in_ok-page.page c.in_ok-page.ensures in
     record { loaded = h.0; means = h.1 }

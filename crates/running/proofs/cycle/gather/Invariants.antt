@@ -1,9 +1,7 @@
-use Rattle.std.proofs.Common.{◌≡◌, ◌≤◌, map, length, take}
+use Rattle.std.proofs.Common.{◌≡◌, map, take}
 use Rattle.charts.specs.Boxes.{taken}
-use Rattle.running.specs.Turns.{all_cells}
+use Rattle.loading.specs.Models.{all_cells}
 use Rattle.running.proofs.cycle.gather.Given as goal
 
-abbrev pub invariant-loop-p : goal.invariant-loop-p
-invariant-loop-p l =
-    (l.p ≤ length l.sources) × (length l.pins ≡ 8)
-    × (take l.p l.pins ≡ map (taken l.terminals (all_cells l.blocks)) (take l.p l.sources))
+abbrev pub invariant-loop-place : goal.invariant-loop-place
+invariant-loop-place l = take l.place l.pins ≡ map (taken l.terminals (all_cells l.blocks)) (take l.place l.sources)

@@ -1,17 +1,9 @@
-use Rattle.std.proofs.Common.{◌+◌, ◌&&◌, drop, sym, ap, ◌∙◌}
-use Rattle.std.proofs.lemmas.List.{drop_all, at_drop_more}
-use Rattle.charts.specs.Tracing.{lit_block}
+use Rattle.std.proofs.Common.{rules, ◌∙◌}
+use Rattle.std.proofs.lemmas.Iterator.{YieldsList-from_slice}
+use Rattle.std.proofs.lemmas.Iterator.Search.{all_from_yields_List}
+use Rattle.charts.specs.Tracing.{is_one}
+use Rattle.tracing.proofs.Reading.{all_lit}
 use Rattle.tracing.proofs.lamps.is_lit_block.Goals as goal
 
-pub returns-then-not-is_one : goal.returns-then-not-is_one
-returns-then-not-is_one c =
-    let rest = lit_block (drop (c.loop-cell.cell-index + 1) c.args.cells.now) in
-    sym (c.loop-cell.invariant ∙ at_drop_more lit_block _ _ _ c.loop-cell-test.true ∙ ap (λ b. b && rest) (sym c.if-not-is_one.ensures))
-
-pub loop-cell-preserved : goal.loop-cell-preserved
-loop-cell-preserved c =
-    let rest = lit_block (drop (c.loop-cell.cell-index + 1) c.args.cells.now) in
-    c.loop-cell.invariant ∙ at_drop_more lit_block _ _ _ c.loop-cell-test.true ∙ ap (λ b. b && rest) (sym c.if-not-is_one.ensures)
-
 pub returns : goal.returns
-returns c = sym (c.loop-cell.invariant ∙ ap lit_block (drop_all _ _ c.loop-cell-test.false))
+returns c = all_from_yields_List is_one _ _ c.all.result c.all.ensures.ran (YieldsList-from_slice c.args.cells.now (search rules)) (λ x b q k. search rules) ∙ all_lit c.args.cells.now
