@@ -18,6 +18,7 @@ use std::alloc::{AllocError, Global};
 pub(crate) fn build<L: Library>(heap: Global, library: &L, chart: &[u8]) -> Result<Page, AllocError>
     ensures { (rs : List Raw) → walk_one (L.Library.meaning library.now).shape block_limit nothing_met 0 0 chart.now ≡ Ok rs → IfOk result (Built (L.Library.meaning library.now) rs) }
 {
+    // Kept as a literal, here and where a loader begins: two empty vectors are no longer than a call.
     let mut page = Page {
         blocks: Vec::new(heap),
         outputs: Vec::new(heap),

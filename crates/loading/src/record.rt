@@ -52,6 +52,7 @@ pub(crate) fn output_record(body: &[u8]) -> OutputRecord
 }
 
 // The byte at a place, 0 past the end.
+// Kept as a function, as running's for signals: each names what stands for nothing, and the rest is the library's.
 pub(crate) fn byte_at(bytes: &[u8], place: usize) -> u8
     ensures { result ≡ slice_index bytes.now place }
 {

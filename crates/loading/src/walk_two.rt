@@ -17,6 +17,7 @@ use signals::coding::decode;
 use signals::terminals::type_of_terminal;
 
 // What a wire may come from: the kinds of the chart's blocks in their order, and the library that knows the kinds.
+// Kept without a model: its clauses speak of both parts, and a view would be the two again.
 #[derive(Drop)]
 pub(crate) struct Wiring<'a, L> {
     pub(crate) library: &'a L,

@@ -9,6 +9,7 @@ use charts::OutputRecord;
 use loading::{Block, Page};
 
 // The kind, and five bytes a pin.
+// Kept beside Piece: a piece that is written fits a buffer, while a length may be one that no usize holds.
 #[tactic(auto, using(crate::proofs::Lengths::sources_length))]
 fn block_length(block: &Block) -> Option<usize>
     ensures { IsInUsize result (length (block_bytes (block_model block.now))) }

@@ -20,6 +20,7 @@ pub(crate) fn put<const N: usize>(cells: &mut [Signal], new: [Signal; N]) -> Res
 }
 
 // Whether there are as many new cells as old ones, each of the type of the old one.
+// Kept as a length and pairs: `Iterator::eq` over two mapped lists says it in one word, and its contract in more than these two.
 fn are_same_types(new: &[Signal], old: &[Signal]) -> bool
     ensures { result ≡ typed (map type_of new.now) old.now }
 {
