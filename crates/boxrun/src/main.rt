@@ -1,11 +1,10 @@
 // Runs a box over the shipped library: the chart from `chart.bin`, the calls from standard input, a line for each on standard output.
 #![tactic(auto)]
 
-ghost use Rattle.std.specs.Prelude.{◌≤◌, IfOk, vec_len};
-ghost use Rattle.console.specs.Inputs.{input_limit};
+ghost use Rattle.std.specs.Prelude.{◌≤◌, length, IfOk};
 
 use anyhow::anyhow;
-use console::input::{INPUT_LIMIT, read_limited};
+use console::input::{INPUT_LIMIT, fill};
 use console::session::transcript;
 use std::fs::File;
 use std::io;
@@ -15,16 +14,26 @@ fn main(rt: HostRuntime) -> anyhow::Result<()> {
 }
 
 fn run(rt: &HostRuntime) -> anyhow::Result<()> {
-    let chart = read_chart(rt).map_err(|error| anyhow!("chart.bin cannot be read: {error}"))?;
-    let calls = read_limited(rt.alloc(), rt.stdin(), INPUT_LIMIT)?;
-    let text = transcript(rt.alloc(), shipped::library(), &chart, &calls)?;
+    // Kept: room of its own and a count, so that no input is lost for want of memory.
+    let mut chart = [0u8; INPUT_LIMIT];
+    let length = read_chart(rt, &mut chart).map_err(|error| anyhow!(
+        "chart.bin cannot be read: {error}"
+    ))?;
+    let mut calls = [0u8; INPUT_LIMIT];
+    let count = fill(&mut rt.stdin(), &mut calls)?;
+    let text = transcript(
+        rt.alloc(),
+        shipped::library(),
+        &chart[..length],
+        &calls[..count],
+    )?;
     print!(rt; "{text}")?;
     Ok(())
 }
 
-fn read_chart(rt: &HostRuntime) -> io::Result<Vec<u8>>
-    ensures { IfOk result (λ chart. vec_len chart ≤ input_limit) }
+fn read_chart(rt: &HostRuntime, chart: &mut [u8]) -> io::Result<usize>
+    ensures { IfOk result (λ n. n ≤ length chart.old) }
 {
-    let file = File::open(rt, "chart.bin")?;
-    read_limited(rt.alloc(), file, INPUT_LIMIT)
+    let mut file = File::open(rt, "chart.bin")?;
+    fill(&mut file, chart)
 }

@@ -1,4 +1,3 @@
-pub mod Digits
 pub mod Reading
 pub mod Holding
 pub mod Telling

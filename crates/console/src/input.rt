@@ -1,5 +1,5 @@
 // Input of a limited length.
-ghost use Rattle.std.specs.Prelude.{◌≡◌, ◌≤◌, take, IfOk, IfSome, vec_len};
+ghost use Rattle.std.specs.Prelude.{◌≡◌, ◌≤◌, length, take, IfOk, IfSome, vec_len};
 
 use std::alloc::Global;
 use std::io;
@@ -7,6 +7,23 @@ use std::io::Read;
 
 // The most bytes that are taken of a chart and of the requests.
 pub const INPUT_LIMIT: usize = 4096;
+
+// Reads until the buffer is full or the input ends, and answers how many bytes came: the first that the reader gives. It takes no
+// memory of its own, so it fails on input alone.
+pub fn fill<R: Read>(reader: &mut R, buffer: &mut [u8]) -> io::Result<usize>
+    ensures count { IfOk result (λ n. n ≤ length buffer.old) }
+    ensures first { IfOk result (λ n. IfSome (R.remaining reader.old) (λ given. take n buffer.new ≡ take (length buffer.old) given)) }
+{
+    let mut filled = 0;
+    while filled < buffer.len() {
+        let count = reader.read(&mut buffer[filled..])?;
+        if count == 0 {
+            break;
+        }
+        filled += count;
+    }
+    Ok(filled)
+}
 
 // The first bytes that a reader gives, up to a limit.
 pub fn read_limited<R: Read + Drop>(heap: Global, reader: R, limit: usize) -> io::Result<Vec<u8>>

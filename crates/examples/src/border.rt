@@ -5,9 +5,8 @@ ghost use Rattle.examples.specs.Blocks.{SteppedOnce};
 use crate::block::Block;
 use crate::fault::Fault;
 use crate::numbers::{ADD, ADD_D, DIV_D, LIM_D, N2_R, R_D};
-use crate::text::{Shown, verdict};
+use crate::text::{Listed, verdict};
 use blocks::Library;
-use itertools::Itertools;
 use signals::Signal;
 use std::alloc::Global;
 
@@ -97,12 +96,11 @@ pub fn print_all<L: Library>(rt: &HostRuntime, library: &L) -> anyhow::Result<()
 }
 
 fn print_case<L: Library>(rt: &HostRuntime, library: &L, case: &Case) -> anyhow::Result<()> {
-    let heap = rt.alloc();
-    let block = stepped_once(heap, library, case.kind, case.pins)?;
+    let block = stepped_once(rt.alloc(), library, case.kind, case.pins)?;
     let what = case.what;
     let verdict = verdict(case.expected, block.cells());
-    let expected = case.expected.iter().copied().map(Shown).format(heap, " ")?;
-    let got = block.cells().iter().copied().map(Shown).format(heap, " ")?;
+    let expected = Listed(case.expected);
+    let got = Listed(block.cells());
     println!(rt; "{what}: expected {expected}, got {got}, {verdict}")?;
     Ok(())
 }

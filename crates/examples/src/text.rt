@@ -24,6 +24,23 @@ impl fmt::Display for Shown {
     }
 }
 
+// Signals, one after another.
+// Kept by hand: the list with gaps of itertools gathers its items first, and a line that was printed without memory could then lack it.
+#[derive(Clone, Copy)]
+pub struct Listed<'a>(pub &'a [Signal]);
+
+impl fmt::Display for Listed<'_> {
+    fn fmt<W: fmt::Write>(&self, f: &mut fmt::Formatter<W>) -> fmt::Result {
+        let mut gap = "";
+        for signal in self.0 {
+            let shown = Shown(*signal);
+            write!(f, "{gap}{shown}")?;
+            gap = " ";
+        }
+        Ok(())
+    }
+}
+
 // `ok` exactly where both hold the same signals: 0 and negative zero differ, all that is not a number is one.
 pub fn verdict(expected: &[Signal], got: &[Signal]) -> &'static str
     ensures ok { expected.now ≡ got.now → result.now ≡ codes "ok" }

@@ -21,7 +21,7 @@ impl fmt::Display for Agreement {
 }
 
 // The first that is not as the sheet says.
-#[derive(Debug, Drop, Error)]
+#[derive(Clone, Copy, Debug, Error)]
 pub enum Difference {
     // A line, by its number, counted from 1.
     #[error("line {0} differs")]

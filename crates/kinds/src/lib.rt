@@ -9,6 +9,9 @@ use signals::{Signal, SignalType};
 use steps::step;
 pub use table::{House, Numbering, Standard};
 
+pub mod house;
+pub mod standard;
+
 // The library of the kinds that a numbering lists: `Standard` or `House`.
 #[derive(Clone, Copy)]
 pub struct Kinds<N>(pub N);

@@ -11,7 +11,7 @@ loop-place-preserved g c =
     let i = c.loop-place.place in
     let cells = c.loop-place.cells in
     let d = Signal.Bool false in
-    ap (set cells i) (c.unwrap_or.ensures ∙ ap (λ o. unwrap_or o (get_or cells i d)) c.start.ensures)
+    ap (set cells i) c.start_or.ensures
     ∙ ap (λ (cs : List Signal). set cs i (unwrap_or (start_of m c.args.kind i) (get_or cs i d))) c.loop-place.invariant
     ∙ laid_more m c.args.kind c.args.cells.now i d
 

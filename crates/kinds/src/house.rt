@@ -1,0 +1,2 @@
+// The numbering of the house library.
+pub use table::House;

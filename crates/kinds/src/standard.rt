@@ -1,0 +1,2 @@
+// The numbering of the standard library.
+pub use table::Standard;
