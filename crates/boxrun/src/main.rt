@@ -1,7 +1,8 @@
 // Runs a box over the shipped library: the chart from `chart.bin`, the calls from standard input, a line for each on standard output.
 #![tactic(auto)]
 
-ghost use Rattle.std.specs.Prelude.{◌≤◌, length, IfOk};
+ghost use Rattle.std.specs.Prelude.{◌≤◌, IfOk};
+ghost use Rattle.console.specs.Inputs.{input_limit};
 
 use anyhow::anyhow;
 use console::input::{INPUT_LIMIT, fill};
@@ -31,8 +32,8 @@ fn run(rt: &HostRuntime) -> anyhow::Result<()> {
     Ok(())
 }
 
-fn read_chart(rt: &HostRuntime, chart: &mut [u8]) -> io::Result<usize>
-    ensures { IfOk result (λ n. n ≤ length chart.old) }
+fn read_chart(rt: &HostRuntime, chart: &mut [u8; INPUT_LIMIT]) -> io::Result<usize>
+    ensures { IfOk result (λ n. n ≤ input_limit) }
 {
     let mut file = File::open(rt, "chart.bin")?;
     fill(&mut file, chart)
