@@ -25,7 +25,7 @@ impl fmt::Display for Shown {
 }
 
 // Signals, one after another.
-// Kept by hand: the list with gaps of itertools gathers its items first, and a line that was printed without memory could then lack it.
+// Kept by hand: itertools gathers the items first, so that a line which needs no memory could fail for want of it.
 #[derive(Clone, Copy)]
 pub struct Listed<'a>(pub &'a [Signal]);
 
